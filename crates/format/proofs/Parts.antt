@@ -21,7 +21,7 @@ take-most xs k =
     (cases-lt (length xs) k)
 
 -- so does dropping
-drop-most : (xs : List ℕ) (i : ℕ) → drop (min i (length xs)) xs ≡ drop i xs
+pub drop-most : (xs : List ℕ) (i : ℕ) → drop (min i (length xs)) xs ≡ drop i xs
 drop-most xs i =
     ⊎-elim
     (λ (h : length xs < i). let e : min i (length xs) ≡ length xs = omega arith in ap (λ n. drop n xs) e ∙ drop-all (length xs) xs (omega arith) ∙ sym (drop-all i xs (omega arith)))

@@ -1,10 +1,9 @@
 -- Numbers in octets: big-endian, and signed ones by sign and magnitude.
-use mathlib.Core.Path.{_≡_}
 use mathlib.Core.Bool.{cond}
 use mathlib.Core.List.{List}
-use Prim.Native.Nat.{ℕ, suc, _+_, _-_, _≤_, _<_, min}
+use Prim.Native.Nat.{ℕ, suc, _+_, _-_, min}
 use lib.Dec.{ltb}
-use lib.IntN.{ℤ, pos, negsuc, negℤ}
+use lib.IntN.{ℤ, pos, negsuc, negℤ, natAbs}
 use lib.ListN.{take, drop}
 use Rattle.std.specs.shelf.Digits as digits
 use Rattle.std.specs.declared.option.Option.{Option}
@@ -27,11 +26,6 @@ abbrev pub signWritten : ℕ → ℤ → ℕ
 signWritten top (pos n) = n
 signWritten top (negsuc n) = top + suc n
 
--- a number's magnitude
-abbrev pub magnitude : ℤ → ℕ
-magnitude (pos n) = n
-magnitude (negsuc n) = suc n
-
 -- what is written of a signed number, if its magnitude leaves the top bit free
 abbrev pub signedRaw : ℕ → ℤ → Option ℕ
-signedRaw top z = cond (ltb (magnitude z) top) (Some (signWritten top z)) None
+signedRaw top z = cond (ltb (natAbs z) top) (Some (signWritten top z)) None

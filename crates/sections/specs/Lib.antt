@@ -1,0 +1,4 @@
+pub mod Calendar
+pub mod Rules
+pub mod Sections
+pub mod Kinds
