@@ -1,6 +1,6 @@
 -- What each section is checked for, in order, and what it says.
 use mathlib.Core.List.{List, [], _∷_}
-use Prim.Native.Nat.{ℕ, _*_}
+use Prim.Native.Nat.{ℕ, min}
 use lib.ListN.{drop}
 use denote.Ref.{RefT}
 use Rattle.format.specs.Numbers.{field}
@@ -59,10 +59,6 @@ frameOf s = record {
   dj = field s 68 4;
 }
 
--- the cells of a frame
-abbrev pub points : Frame → ℕ
-points f = f .ni * f .nj
-
 -- section 4: the product is all from its octet 6 on
 unfoldable pub productRules : List Rule
 productRules = LengthFrom 9 ∷ Fixed (row 6 2 0) ∷ ProductTemplate 8 ∷ ProductLength ∷ []
@@ -74,7 +70,7 @@ packingRules n =
     Within 17 1 0 6 ∷ TableLength ∷ []
 
 abbrev pub packingOf : List ℕ → Packing (List ℕ)
-packingOf s = record { v = field s 13 2; scale = field s 17 1; table = drop 17 s }
+packingOf s = record { v = min (field s 13 2) 255; scale = field s 17 1; table = drop 17 s }
 
 -- section 6
 unfoldable pub bitmapRules : List Rule

@@ -12,8 +12,8 @@ use format::numbers::TOP_OF_TWO;
 /// What section 5 says; `P` holds a part of the octets.
 #[derive(Clone, Copy)]
 pub struct Packing<P> {
-    /// V, the highest level that the string provides for.
-    pub v: u16,
+    /// V, the highest level that the string provides for; told as 255 if it is above that.
+    pub v: u8,
     /// E, the decimal scale of the values.
     pub scale: u8,
     /// The values of the levels from 1 on, in two octets each.
@@ -25,7 +25,7 @@ pub fn packing_of(section: &[u8]) -> Packing<&[u8]>
     ensures { λ r. ⌜ heldPacking r ≡ packingOf (now (section .entry)) ⌝ }
 {
     Packing {
-        v: field(section, 13, 2) as u16,
+        v: field(section, 13, 2).min(255) as u8,
         scale: field(section, 17, 1) as u8,
         table: from_place(section, 17),
     }

@@ -1,0 +1,5 @@
+pub mod Stepping
+pub mod Lengths
+pub mod Following
+pub mod Agreeing
+pub mod Counting

@@ -1,0 +1,15 @@
+use mathlib.Core.Path.{_≡_, sym, _∙_}
+use Prim.Native.Nat.{_≤_}
+use native.Mathlib.Omega.{arith}
+use lib.ListN.{length}
+use borrow.Author.Tests.{ltb-false}
+use Rattle.messages.specs.Messages.{stated}
+use Rattle.messages.proofs.Stepping.{stated-is, step-ends}
+use Rattle.messages.proofs.steps.next_section.Needs as need
+
+pub returns : need.returns
+returns c =
+    let long : 5 ≤ length (c .args .rest .now) = omega (arith, ltb-false) in
+    let is : c .from-be-bytes-length .result ≡ stated (c .args .rest .now) = c .from-be-bytes-length .ensures ∙ sym (stated-is (c .args .rest .now) (omega arith)) in
+    step-ends _ (c .args .start .place) (c .args .start .fields) (c .args .rest .now) _ _ _ _ _ long (c .in-Some .ensures tt) is (c .if-length-rest .left)
+    (c .split-at .ensures .front) (c .split-at .ensures .back) (c .read-section .ensures)

@@ -1,0 +1,6 @@
+pub mod Order
+pub mod Messages
+pub mod Meaning
+pub mod Steps
+pub mod Laws
+pub mod Composition

@@ -1,0 +1,24 @@
+//! What a message is read into.
+use sections::frame::Frame;
+use sections::packing::Packing;
+use sections::packing::PackingClone;
+
+/// A field of a message; `P` holds a part of the octets.
+#[derive(Clone, Copy)]
+pub struct Field<P> {
+    /// Where its cells lie.
+    pub frame: Frame,
+    /// Section 4 from octet 6 on.
+    pub product: P,
+    /// How its levels are packed, and which values they stand for.
+    pub packing: Packing<P>,
+    /// Section 7 from octet 6 on: the run string of its levels.
+    pub string: P,
+}
+
+/// The latest frame, and the points that section 3 states for it.
+#[derive(Clone, Copy)]
+pub struct Grid {
+    pub frame: Frame,
+    pub points: u32,
+}

@@ -1,0 +1,9 @@
+pub mod Digits
+pub mod Strings
+pub mod LongestRuns
+pub mod Shortest
+pub mod Theorems
+pub mod DigitLoop
+pub mod Faultless
+pub mod CheckLoop
+pub mod LengthLoop

@@ -1,0 +1,4 @@
+pub mod Runs
+pub mod Canonical
+pub mod StringFaults
+pub mod Theorems
