@@ -28,14 +28,14 @@ pub record IsField (g : Grid) (s : List ℕ) (f : Field (List ℕ)) : Type 0 whe
   pub product : List ℕ
   pub packing : List ℕ
   pub bitmap : List ℕ
-  pub values : List ℕ
-  pub octets : s ≡ product ++ (packing ++ (bitmap ++ values))
+  pub levels : List ℕ
+  pub octets : s ≡ product ++ (packing ++ (bitmap ++ levels))
   pub four : IsSection 4 productRules product
   pub five : IsSection 5 (packingRules (g .points)) packing
   pub six : IsSection 6 bitmapRules bitmap
-  pub seven : IsSection 7 dataRules values
-  pub loads : string.Loads (packingOf packing .v) (g .points) (content values)
-  pub means : f ≡ record { frame = g .frame; product = content product; packing = packingOf packing; string = content values }
+  pub seven : IsSection 7 dataRules levels
+  pub loads : string.Loads (packingOf packing .v) (g .points) (content levels)
+  pub means : f ≡ record { frame = g .frame; product = content product; packing = packingOf packing; string = content levels }
 
 -- fields one after another, each with a frame section of its own or under the latest one, if there is one
 pub data AreFields : Option Grid → List ℕ → List (Field (List ℕ)) → Type 0 where
