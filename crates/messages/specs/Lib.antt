@@ -4,3 +4,4 @@ pub mod Meaning
 pub mod Steps
 pub mod Laws
 pub mod Composition
+pub mod Lawful
