@@ -38,7 +38,7 @@ pub struct Step<'a> {
 }
 
 /// The frame that section 3 says, and the points that it states.
-pub(crate) fn grid_of(section: &[u8]) -> Grid
+pub fn grid_of(section: &[u8]) -> Grid
     ensures { λ r. ⌜ r ≡ gridOf (now (section .entry)) ⌝ }
 {
     Grid {
