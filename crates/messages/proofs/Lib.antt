@@ -3,3 +3,4 @@ pub mod Lengths
 pub mod Following
 pub mod Agreeing
 pub mod Counting
+pub mod LawfulReads

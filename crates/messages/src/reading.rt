@@ -8,6 +8,7 @@ ghost use Rattle.messages.specs.Order.{heldLast};
 ghost use Rattle.messages.specs.Messages.{Ended, headChecks};
 ghost use Rattle.messages.specs.Meaning.{meaning, counted};
 ghost use Rattle.messages.specs.Laws.{OneOutcome};
+ghost use Rattle.messages.specs.Lawful.{LawfulFields};
 use crate::order::Last;
 use crate::steps::next_section;
 use format::fault::Fault;
@@ -56,6 +57,7 @@ fn at_end(last: Last<&[u8]>, rest: &[u8]) -> bool
 pub fn check_message(octets: &[u8]) -> Result<usize, Fault>
     ensures counts { λ r. ⌜ refused r ≡ counted (meaning (now (octets .entry))) ⌝ }
     ensures one { λ _. ⌜ OneOutcome ⌝ }
+    ensures lawful { λ _. ⌜ LawfulFields ⌝ }
 {
     check_head(octets)?;
     let mut fields = 0;

@@ -8,7 +8,7 @@ use lib.ListN.{length, replicate, length-append, length-replicate}
 use Rattle.std.specs.shelf.Lists.{All}
 use Rattle.std.specs.declared.option.Option.the-variants.{Some, None}
 use Rattle.std.proofs.shelf.Tests.{cases-lt, lt-ltb, le-ltb, cond-true, cond-false}
-use Rattle.runs.specs.Runs.{base, runs, digitsValue, measured, cellsOf, Begins, highest}
+use Rattle.runs.specs.Runs.{base, runs, digitsValue, measured, cellsOf, loaded, Begins, highest}
 use Rattle.runs.specs.Canonical.{canonical}
 use Rattle.runs.specs.StringFaults.{Flaw, flaw, faultFrom, fault, Loads}
 use Rattle.runs.specs.Theorems.{Faultless-loads, Canonical-faultless, Canonical-laws}
@@ -73,16 +73,23 @@ fault-begun V n (o ∷ s) b = cond-false _ _ _ (le-ltb V o b)
 pub fault-digit : (V n o : ℕ) (s : List ℕ) → V < o → fault V n (o ∷ s) ≡ Some (flaw 10 0 0)
 fault-digit V n o s h = cond-true _ _ _ (lt-ltb V o h)
 
-loads : (V n : ℕ) (s : List ℕ) → 0 < n → All (λ o. o < 256) s → fault V n s ≡ None → Loads V n s
+-- a string with no fault has its cells, whatever its octets
+pub faultless-length : (V n : ℕ) (s : List ℕ) → fault V n s ≡ None → length (loaded V s) ≡ n
 unfolding runs total
-loads V n [] some a e = absurd (omega (arith, fills V n 0 0 [] (omega arith) e))
+faultless-length V n [] e = omega (arith, fills V n 0 0 [] (omega arith) e)
+faultless-length V n (o ∷ s) e =
+    ⊎-elim
+    (λ (k : V < o). let clash : _≡_ {A = ℕ} 0 1 = cc (fault-digit V n o s k) in absurd (omega arith))
+    (λ (k : o ≤ V). omega (arith, fills V n 0 0 (runs V (o ∷ s)) (omega arith) (sym (fault-begun V n (o ∷ s) k) ∙ e)))
+    (cases-lt V o)
+
+loads : (V n : ℕ) (s : List ℕ) → 0 < n → All (λ o. o < 256) s → fault V n s ≡ None → Loads V n s
+unfolding runs
+loads V n [] some a e = absurd (omega (arith, faultless-length V n [] e))
 loads V n (o ∷ s) some a e =
     ⊎-elim
     (λ (k : V < o). let clash : _≡_ {A = ℕ} 0 1 = cc (fault-digit V n o s k) in absurd (omega arith))
-    (λ (k : o ≤ V). record {
-      loadable = record { octets = a; begins = k; gives = refl };
-      count = omega (arith, fills V n 0 0 (runs V (o ∷ s)) (omega arith) (sym (fault-begun V n (o ∷ s) k) ∙ e));
-    })
+    (λ (k : o ≤ V). record { loadable = record { octets = a; begins = k; gives = refl }; count = faultless-length V n (o ∷ s) e })
     (cases-lt V o)
 
 none : (V n : ℕ) (s : List ℕ) → Loads V n s → fault V n s ≡ None

@@ -1,5 +1,5 @@
 -- What the loops keep that find the highest level and the canonical length of a string's cells.
-use mathlib.Core.Path.{_≡_, refl, sym, ap, _∙_}
+use mathlib.Core.Path.{_≡_, sym, ap, _∙_}
 use mathlib.Core.List.{List, [], _∷_, _++_, map, append-assoc, append-nil}
 use Prim.Native.Nat.{ℕ, zero, suc, _+_, _-_, _≤_, _<_, max, min}
 use native.Mathlib.Numerals.{add-one}
@@ -10,13 +10,10 @@ use Rattle.std.proofs.shelf.Lists.{drop-all}
 use Rattle.runs.specs.Runs.{base, leadingDigits, runs, digitsValue, measured, cellsOf, loaded, highest}
 use Rattle.runs.specs.Canonical.{prepend, longestRuns, digits, runsOctets, canonical}
 use Rattle.runs.proofs.Strings.{runs-level, runs-digit}
+use Rattle.runs.proofs.Levels.{highest-run}
 use Rattle.runs.proofs.LongestRuns.{longest-replicate, prepend-apart}
 use Rattle.runs.proofs.Shortest.{cost, length-octets}
 use Rattle.runs.proofs.DigitLoop.{runs-from, runs-skip, leading-next, level-next}
-
-highest-run : (n v : ℕ) (cs : List ℕ) → highest (replicate (suc n) v ++ cs) ≡ max v (highest cs)
-highest-run zero v cs = refl
-highest-run (suc n) v cs = omega (arith, highest-run n v cs)
 
 -- the highest level from an octet on, if it is a level and if it is a digit
 module _ (V : ℕ) (s : List ℕ) (p : ℕ) (h : p < length s) where

@@ -1,5 +1,6 @@
 pub mod Digits
 pub mod Strings
+pub mod Levels
 pub mod LongestRuns
 pub mod Shortest
 pub mod Theorems
