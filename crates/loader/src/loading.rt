@@ -7,6 +7,7 @@ ghost use Rattle.std.specs.declared.option.Option.the-variants.{None};
 ghost use Rattle.format.specs.Refusals.{refused};
 ghost use Rattle.sections.specs.Positions.{positionOf};
 ghost use Rattle.sections.specs.Values.{valueOf};
+ghost use Rattle.messages.specs.Laws.{MessageLaws};
 ghost use Rattle.loader.specs.Held.{held, heldFields, ahead, Loaded, asked, itself, heldAnswer};
 use crate::fields::Fields;
 use crate::holder::Loader;
@@ -47,7 +48,8 @@ impl<'a> Loader<'a> {
 
     /// Loads a message in place of what was held; a refused one leaves that as it was.
     pub fn load(&mut self, octets: &'a [u8]) -> Result<(), Fault>
-        ensures { λ r. ⌜ Loaded (now (octets .entry)) (now (self .entry)) (now (self .exit)) r ⌝ }
+        ensures loads { λ r. ⌜ Loaded (now (octets .entry)) (now (self .entry)) (now (self .exit)) r ⌝ }
+        ensures laws { λ _. ⌜ MessageLaws ⌝ }
     {
         let count = check_message(octets)?;
         *self = Loader { octets, count };

@@ -4,3 +4,5 @@ pub mod Following
 pub mod Agreeing
 pub mod Counting
 pub mod LawfulReads
+pub mod Taken
+pub mod Composed

@@ -3,7 +3,16 @@ use mathlib.Core.Path.{_≡_}
 use mathlib.Core.List.{List}
 use Prim.Native.Nat.{ℕ}
 use Rattle.messages.specs.Messages.{Means, Outcome}
+use Rattle.messages.specs.Composition.{Composition}
+use Rattle.messages.specs.Lawful.{LawfulFields}
 
 -- a message has one outcome, and no other
 abbrev pub OneOutcome : Type 0
 OneOutcome = (s : List ℕ) → (o : Outcome) × Means s o × ((q : Outcome) → Means s q → q ≡ o)
+
+-- a message has one outcome; octets load as a message exactly if they are one, section by section; and each field of one
+-- is lawful
+pub record MessageLaws : Type 0 where
+  pub one : OneOutcome
+  pub composed : Composition
+  pub lawful : LawfulFields

@@ -7,8 +7,7 @@ ghost use Rattle.sections.specs.Rules.{judge, judged};
 ghost use Rattle.messages.specs.Order.{heldLast};
 ghost use Rattle.messages.specs.Messages.{Ended, headChecks};
 ghost use Rattle.messages.specs.Meaning.{meaning, counted};
-ghost use Rattle.messages.specs.Laws.{OneOutcome};
-ghost use Rattle.messages.specs.Lawful.{LawfulFields};
+ghost use Rattle.messages.specs.Laws.{MessageLaws};
 use crate::order::Last;
 use crate::steps::next_section;
 use format::fault::Fault;
@@ -56,8 +55,7 @@ fn at_end(last: Last<&[u8]>, rest: &[u8]) -> bool
 /// Checks a whole message, and counts its fields.
 pub fn check_message(octets: &[u8]) -> Result<usize, Fault>
     ensures counts { λ r. ⌜ refused r ≡ counted (meaning (now (octets .entry))) ⌝ }
-    ensures one { λ _. ⌜ OneOutcome ⌝ }
-    ensures lawful { λ _. ⌜ LawfulFields ⌝ }
+    ensures laws { λ _. ⌜ MessageLaws ⌝ }
 {
     check_head(octets)?;
     let mut fields = 0;
