@@ -1,3 +1,4 @@
 pub mod Numbers
 pub mod Written
 pub mod Refusals
+pub mod RefusalText

@@ -2,4 +2,5 @@
 pub mod fault;
 pub mod limits;
 pub mod numbers;
+pub mod text;
 pub mod writing;
