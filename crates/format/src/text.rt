@@ -29,6 +29,9 @@ pub impl Display for Refusal as RefusalDisplay {
         let place = self.place;
         let fields = self.fields;
         let cells = self.cells;
-        write!(f, "refused={number}\nlayer={layer}\nplace={place}\nfield={fields}\ncells={cells}\n")
+        write!(
+            f,
+            "refused={number}\nlayer={layer}\nplace={place}\nfield={fields}\ncells={cells}\n"
+        )
     }
 }

@@ -1,6 +1,6 @@
 //! Lists the message on standard input: `gridlist < message`.
-use listing::lines::listing_of;
 use listing::lines::ListingDisplay;
+use listing::lines::listing_of;
 use std::io;
 use std::io::Read;
 

@@ -43,13 +43,13 @@ module _ {W : Type 0} (took : W → List ℕ → W → Type 0) (f₀ : Formatter
     count = omega (arith, h .count, ap length is);
     lawful = subst (All LawfulField) is (h .lawful) .1;
     text = λ p.
-      let t = h .text p in
-      let line = figuresLines y in
-      record {
-        text = t .text ++ line;
-        put = put-more took f₀ (t .text) f line g (t .put) (prints (t .put .plain) ok);
-        whole = append-assoc (t .text) line (fieldsLines (k + 1) after) ∙ ap (λ z. t .text ++ (figuresLines z ++ fieldsLines (k + 1) after)) figures ∙ ap (λ l. t .text ++ fieldsLines k l) (sym is) ∙ t .whole;
-      };
+        let t = h .text p in
+        let line = figuresLines y in
+        record {
+          text = t .text ++ line;
+          put = put-more took f₀ (t .text) f line g (t .put) (prints (t .put .plain) ok);
+          whole = append-assoc (t .text) line (fieldsLines (k + 1) after) ∙ ap (λ z. t .text ++ (figuresLines z ++ fieldsLines (k + 1) after)) figures ∙ ap (λ l. t .text ++ fieldsLines k l) (sym is) ∙ t .whole;
+        };
   }
 
   pub done : (k : ℕ) (left after : List (Field (List ℕ))) (f : Formatter W) → Printing k left f → Stepped left None after → Prints took f₀ (Ok tt) (fieldsLines 0 all) f

@@ -6,16 +6,19 @@ ghost use Rattle.std.specs.Written.{Prints};
 ghost use Rattle.std.specs.declared.option.Option.the-variants.{Some};
 ghost use Rattle.std.specs.shelf.Lists.{All};
 ghost use Rattle.messages.specs.Lawful.{LawfulField};
+ghost use Rattle.messages.specs.Order.{heldField};
 ghost use Rattle.loader.specs.Held.{ahead};
-ghost use Rattle.listing.specs.Lines.{figuresLines, fieldsLines, Lists};
+ghost use Rattle.listing.specs.Lines.{figuresOf, figuresLines, fieldsLines, Lists};
 ghost use Rattle.listing.specs.Listings.{textOf};
-use crate::figures::figures_of;
 use crate::figures::Figures;
 use crate::listing::Listing;
 use format::text::RefusalDisplay;
 use loader::fields::Fields;
 use loader::holder::Loader;
 use loader::walking::FieldsIterator;
+use messages::field::Field;
+use runs::measuring::canonical_length;
+use runs::measuring::highest_level;
 use std::fmt;
 use std::fmt::Display;
 
@@ -30,7 +33,26 @@ pub impl Display for Figures as FiguresDisplay {
         let highest = self.highest;
         let string = self.string;
         let shortest = self.shortest;
-        write!(f, "highest={highest}\nstring={string}\nshortest={shortest}\n")
+        write!(
+            f,
+            "highest={highest}\nstring={string}\nshortest={shortest}\n"
+        )
+    }
+}
+
+/// The figures of field `number`.
+fn figures_of(number: usize, field: &Field<&[u8]>) -> Figures
+    requires { ⌜ LawfulField (heldField (now field)) ⌝ }
+    ensures { λ r. ⌜ r ≡ figuresOf number (heldField (now (field .entry))) ⌝ }
+{
+    let v = field.packing.v;
+    Figures {
+        number,
+        width: field.frame.ni,
+        height: field.frame.nj,
+        highest: highest_level(field.string, v),
+        string: field.string.len(),
+        shortest: canonical_length(field.string, v).unwrap_or(0),
     }
 }
 

@@ -15,11 +15,11 @@ use crate::walking::FieldsIterator;
 use format::fault::ChartFault;
 use format::fault::Fault;
 use messages::field::Field;
+use messages::field::grid_of;
 use messages::reading::check_message;
-use messages::steps::grid_of;
 use sections::frame::Position;
-use sections::identification::identification_of;
 use sections::identification::Identification;
+use sections::identification::identification_of;
 use sections::packing::Value;
 use sections::parts::from_place;
 

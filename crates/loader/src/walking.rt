@@ -13,9 +13,9 @@ use crate::fields::Fields;
 use format::numbers::field;
 use messages::field::Field;
 use messages::field::Grid;
-use messages::steps::grid_of;
-use sections::packing::packing_of;
+use messages::field::grid_of;
 use sections::packing::Packing;
+use sections::packing::packing_of;
 use sections::parts::content;
 
 /// A section by its stated length, and the octets after it.
@@ -59,7 +59,12 @@ fn to_data<'a>(grid: Grid, product: &'a [u8], rest: &'a [u8]) -> (Packing<&'a [u
 }
 
 /// The next field, whose string is still to be read, and the octets after it.
-fn past_data<'a>(grid: Grid, product: &'a [u8], packing: Packing<&'a [u8]>, rest: &'a [u8]) -> (Field<&'a [u8]>, &'a [u8])
+fn past_data<'a>(
+    grid: Grid,
+    product: &'a [u8],
+    packing: Packing<&'a [u8]>,
+    rest: &'a [u8],
+) -> (Field<&'a [u8]>, &'a [u8])
     requires { ⌜ 0 < length (coming (last.Bitmap grid (now product) (heldPacking packing)) (now rest)) ⌝ }
     ensures { λ r. ⌜ coming (last.Bitmap grid (now (product .entry)) (heldPacking (packing .entry))) (now (rest .entry)) ≡ heldField (r .0) ∷ coming (last.Data grid) (now (r .1)) ⌝ }
 {

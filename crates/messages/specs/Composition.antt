@@ -41,11 +41,11 @@ pub record IsField (g : Grid) (s : List ℕ) (f : Field (List ℕ)) : Type 0 whe
 pub data AreFields : Option Grid → List ℕ → List (Field (List ℕ)) → Type 0 where
   none : {g : Option Grid} {s : List ℕ} {fs : List (Field (List ℕ))} → s ≡ [] → fs ≡ [] → AreFields g s fs
   own : {g : Option Grid} {s frame body rest : List ℕ} {f : Field (List ℕ)} {more fs : List (Field (List ℕ))}
-    → IsSection 3 frameRules frame → IsField (gridOf frame) body f → AreFields (Some (gridOf frame)) rest more
-    → s ≡ frame ++ (body ++ rest) → fs ≡ f ∷ more → AreFields g s fs
+      → IsSection 3 frameRules frame → IsField (gridOf frame) body f → AreFields (Some (gridOf frame)) rest more
+      → s ≡ frame ++ (body ++ rest) → fs ≡ f ∷ more → AreFields g s fs
   under : {g : Option Grid} {latest : Grid} {s body rest : List ℕ} {f : Field (List ℕ)} {more fs : List (Field (List ℕ))}
-    → g ≡ Some latest → IsField latest body f → AreFields (Some latest) rest more
-    → s ≡ body ++ rest → fs ≡ f ∷ more → AreFields g s fs
+      → g ≡ Some latest → IsField latest body f → AreFields (Some latest) rest more
+      → s ≡ body ++ rest → fs ≡ f ∷ more → AreFields g s fs
 
 -- section 0 with the right total, section 1, one or more fields, and the end mark
 pub record IsMessage (s : List ℕ) (m : Message) : Type 0 where

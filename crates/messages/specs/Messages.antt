@@ -132,27 +132,27 @@ ofString f place fields = told (f .number) layer.String (place + f .place) field
 -- than what is left, flawed, has a faulty string, or is sound, and then reading goes on after it.
 pub data Reads : Last (List ℕ) → ℕ → List (Field (List ℕ)) → List ℕ → Fields → Type 0 where
   whole : {l : Last (List ℕ)} {p : ℕ} {fs : List (Field (List ℕ))} {r : List ℕ}
-    → Ended l r → length r ≡ 4 → Reads l p fs r (Ok fs)
+      → Ended l r → length r ≡ 4 → Reads l p fs r (Ok fs)
   trailing : {l : Last (List ℕ)} {p : ℕ} {fs : List (Field (List ℕ))} {r : List ℕ}
-    → Ended l r → 4 < length r → Reads l p fs r (Err (ofMessage 5 (p + 4) (length fs)))
+      → Ended l r → 4 < length r → Reads l p fs r (Err (ofMessage 5 (p + 4) (length fs)))
   short : {l : Last (List ℕ)} {p : ℕ} {fs : List (Field (List ℕ))} {r : List ℕ}
-    → (Ended l r → ⊥) → length r < 5 → Reads l p fs r (Err (ofMessage 1 p (length fs)))
+      → (Ended l r → ⊥) → length r < 5 → Reads l p fs r (Err (ofMessage 1 p (length fs)))
   disorder : {l : Last (List ℕ)} {p : ℕ} {fs : List (Field (List ℕ))} {r : List ℕ}
-    → (Ended l r → ⊥) → 5 ≤ length r → follows l (getD r 4 0) ≡ None → Reads l p fs r (Err (ofMessage 4 (p + 4) (length fs)))
+      → (Ended l r → ⊥) → 5 ≤ length r → follows l (getD r 4 0) ≡ None → Reads l p fs r (Err (ofMessage 4 (p + 4) (length fs)))
   overlong : {l : Last (List ℕ)} {p : ℕ} {fs : List (Field (List ℕ))} {r : List ℕ} {d : Due (List ℕ)}
-    → (Ended l r → ⊥) → 5 ≤ length r → follows l (getD r 4 0) ≡ Some d → length r < stated r → Reads l p fs r (Err (ofMessage 1 p (length fs)))
+      → (Ended l r → ⊥) → 5 ≤ length r → follows l (getD r 4 0) ≡ Some d → length r < stated r → Reads l p fs r (Err (ofMessage 1 p (length fs)))
   flawed : {l : Last (List ℕ)} {p : ℕ} {fs : List (Field (List ℕ))} {r : List ℕ} {d : Due (List ℕ)} {f : Flaw}
-    → (Ended l r → ⊥) → 5 ≤ length r → follows l (getD r 4 0) ≡ Some d → stated r ≤ length r
-    → judge (checksFor (rulesOf d)) (take (stated r) r) ≡ Some f → Reads l p fs r (Err (ofSection (numberOf d) f p (length fs)))
+      → (Ended l r → ⊥) → 5 ≤ length r → follows l (getD r 4 0) ≡ Some d → stated r ≤ length r
+      → judge (checksFor (rulesOf d)) (take (stated r) r) ≡ Some f → Reads l p fs r (Err (ofSection (numberOf d) f p (length fs)))
   faulty : {l : Last (List ℕ)} {p : ℕ} {fs : List (Field (List ℕ))} {r : List ℕ} {d : Due (List ℕ)} {f : string.Flaw}
-    → (Ended l r → ⊥) → 5 ≤ length r → follows l (getD r 4 0) ≡ Some d → stated r ≤ length r
-    → judge (checksFor (rulesOf d)) (take (stated r) r) ≡ None → stringFault d (take (stated r) r) ≡ Some f
-    → Reads l p fs r (Err (ofString f (p + 5) (length fs)))
+      → (Ended l r → ⊥) → 5 ≤ length r → follows l (getD r 4 0) ≡ Some d → stated r ≤ length r
+      → judge (checksFor (rulesOf d)) (take (stated r) r) ≡ None → stringFault d (take (stated r) r) ≡ Some f
+      → Reads l p fs r (Err (ofString f (p + 5) (length fs)))
   sound : {l : Last (List ℕ)} {p : ℕ} {fs : List (Field (List ℕ))} {r : List ℕ} {d : Due (List ℕ)} {o : Fields}
-    → (Ended l r → ⊥) → 5 ≤ length r → follows l (getD r 4 0) ≡ Some d → stated r ≤ length r
-    → judge (checksFor (rulesOf d)) (take (stated r) r) ≡ None → stringFault d (take (stated r) r) ≡ None
-    → Reads (leaves d (take (stated r) r)) (p + stated r) (fs ++ finishes d (take (stated r) r)) (drop (stated r) r) o
-    → Reads l p fs r o
+      → (Ended l r → ⊥) → 5 ≤ length r → follows l (getD r 4 0) ≡ Some d → stated r ≤ length r
+      → judge (checksFor (rulesOf d)) (take (stated r) r) ≡ None → stringFault d (take (stated r) r) ≡ None
+      → Reads (leaves d (take (stated r) r)) (p + stated r) (fs ++ finishes d (take (stated r) r)) (drop (stated r) r) o
+      → Reads l p fs r o
 
 -- the message of the fields read: its identification is what section 1 says, which is octets 17 to 37
 abbrev pub messageOf : List ℕ → Fields → Outcome

@@ -6,7 +6,7 @@ use Rattle.std.specs.Vec.{listOf}
 use Rattle.format.specs.Refusals.{refusal}
 use Rattle.format.specs.declared.fault.Fault.{Fault}
 use Rattle.format.specs.declared.fault.Refusal.{Refusal}
-use Rattle.messages.specs.declared.steps.Step.{Step}
+use Rattle.messages.specs.declared.reading.Step.{Step}
 use Rattle.messages.specs.Order.{heldLast, heldField}
 use Rattle.messages.specs.Meaning.{Next}
 

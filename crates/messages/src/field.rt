@@ -1,5 +1,9 @@
 //! What a message is read into.
+ghost use mathlib.Core.Path.{_≡_};
+ghost use Rattle.messages.specs.Messages.{gridOf};
+use format::numbers::field;
 use sections::frame::Frame;
+use sections::frame::frame_of;
 use sections::packing::Packing;
 use sections::packing::PackingClone;
 
@@ -21,4 +25,14 @@ pub struct Field<P> {
 pub struct Grid {
     pub frame: Frame,
     pub points: u32,
+}
+
+/// The frame that section 3 says, and the points that it states.
+pub fn grid_of(section: &[u8]) -> Grid
+    ensures { λ r. ⌜ r ≡ gridOf (now (section .entry)) ⌝ }
+{
+    Grid {
+        frame: frame_of(section),
+        points: field(section, 7, 4) as u32,
+    }
 }

@@ -2,4 +2,3 @@
 pub mod field;
 pub mod order;
 pub mod reading;
-pub mod steps;

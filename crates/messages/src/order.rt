@@ -4,10 +4,9 @@ ghost use Rattle.std.specs.Options.{mapped};
 ghost use Rattle.messages.specs.Order.{follows, heldLast, heldDue};
 use crate::field::Grid;
 use sections::packing::Packing;
-use sections::packing::PackingClone;
 
 /// The section just read, with what later sections need of it; `P` holds a part of the octets.
-#[derive(Clone, Copy)]
+#[derive(Drop)]
 pub enum Last<P> {
     Head,
     Identification,
@@ -19,7 +18,7 @@ pub enum Last<P> {
 }
 
 /// The section that its number announces, where it may come next.
-#[derive(Clone, Copy)]
+#[derive(Drop)]
 pub enum Due<P> {
     Identification,
     Frame,

@@ -1,50 +1,199 @@
 //! A whole message, section by section.
 ghost use mathlib.Core.Path.{_≡_};
+ghost use Prim.Native.Nat.{_≤_};
 ghost use Rattle.std.specs.Orderings.{Decides};
-ghost use Rattle.format.specs.Refusals.{refused};
+ghost use Rattle.format.specs.Refusals.{refused, refusedInSection};
 ghost use Rattle.format.specs.declared.fault.Layer.the-variants as layer;
 ghost use Rattle.sections.specs.Rules.{judge, judged};
-ghost use Rattle.messages.specs.Order.{heldLast};
+ghost use Rattle.messages.specs.Order.{heldLast, heldDue};
 ghost use Rattle.messages.specs.Messages.{Ended, headChecks};
-ghost use Rattle.messages.specs.Meaning.{meaning, counted};
+ghost use Rattle.messages.specs.Meaning.{dataVerdict, taken, advance, meaning, counted};
+ghost use Rattle.messages.specs.Steps.{heldNext};
 ghost use Rattle.messages.specs.Laws.{MessageLaws};
+use crate::field::Field;
+use crate::field::grid_of;
+use crate::order::Due;
 use crate::order::Last;
-use crate::steps::next_section;
+use crate::order::announced;
 use format::fault::Fault;
+use format::fault::InSection;
 use format::fault::MessageFault;
+use format::fault::SectionInMessage;
 use format::fault::Spot;
 use format::fault::Start;
+use format::fault::StringInSection;
 use format::limits::MOST_OCTETS;
 use format::numbers::field;
+use runs::checking::check_string;
+use sections::packing::packing_of;
+use sections::parts::content;
+use sections::tables::Kind;
+use sections::tables::check_packing;
+use sections::tables::check_section;
+
+/// What one section leaves: the section just read, the field that it finishes, and the octets after it.
+#[derive(Drop)]
+pub(crate) struct Step<'a> {
+    pub last: Last<&'a [u8]>,
+    pub made: Option<Field<&'a [u8]>>,
+    pub rest: &'a [u8],
+}
 
 /// Checks section 0, at the start of the message.
-pub(crate) fn check_head(octets: &[u8]) -> Result<(), Fault>
+fn check_head(octets: &[u8]) -> Result<(), Fault>
     ensures { λ r. ⌜ refused r ≡ judged layer.Message 0 0 (judge headChecks (now (octets .entry))) tt ⌝ }
 {
     if octets.len() < 16 {
-        return Err(Fault::Message(MessageFault::CutShort, Spot { place: 0, fields: 0 }));
+        return Err(Fault::Message(
+            MessageFault::CutShort,
+            Spot {
+                place: 0,
+                fields: 0,
+            },
+        ));
     }
     if field(octets, 1, 4) != 0x4752_4942 {
-        return Err(Fault::Message(MessageFault::Indicator, Spot { place: 0, fields: 0 }));
+        return Err(Fault::Message(
+            MessageFault::Indicator,
+            Spot {
+                place: 0,
+                fields: 0,
+            },
+        ));
     }
     if field(octets, 5, 2) != 0xFFFF {
-        return Err(Fault::Message(MessageFault::Indicator, Spot { place: 4, fields: 0 }));
+        return Err(Fault::Message(
+            MessageFault::Indicator,
+            Spot {
+                place: 4,
+                fields: 0,
+            },
+        ));
     }
     if field(octets, 7, 1) != 0 {
-        return Err(Fault::Message(MessageFault::Indicator, Spot { place: 6, fields: 0 }));
+        return Err(Fault::Message(
+            MessageFault::Indicator,
+            Spot {
+                place: 6,
+                fields: 0,
+            },
+        ));
     }
     if field(octets, 8, 1) != 2 {
-        return Err(Fault::Message(MessageFault::Indicator, Spot { place: 7, fields: 0 }));
+        return Err(Fault::Message(
+            MessageFault::Indicator,
+            Spot {
+                place: 7,
+                fields: 0,
+            },
+        ));
     }
     if field(octets, 9, 8) != octets.len() as u64 || octets.len() > MOST_OCTETS {
-        return Err(Fault::Message(MessageFault::TotalLength, Spot { place: 8, fields: 0 }));
+        return Err(Fault::Message(
+            MessageFault::TotalLength,
+            Spot {
+                place: 8,
+                fields: 0,
+            },
+        ));
     }
     Ok(())
 }
 
+/// Checks section 7 and its string.
+fn check_data(section: &[u8], start: Start, v: u8, points: u32) -> Result<(), InSection>
+    requires { ⌜ start .place ≤ 134217728 ⌝ }
+    ensures { λ r. ⌜ refusedInSection r ≡ dataVerdict v points (start .place) (start .fields) (now (section .entry)) ⌝ }
+{
+    check_section(Kind::Data, section, start)?;
+    let within = Start {
+        place: start.place + 5,
+        fields: start.fields,
+    };
+    check_string(content(section), v, points, within)?;
+    Ok(())
+}
+
+/// Reads a section that may come here, with the octets after it.
+fn read_section<'a>(
+    due: Due<&'a [u8]>,
+    start: Start,
+    section: &'a [u8],
+    after: &'a [u8],
+) -> Result<Step<'a>, Fault>
+    requires { ⌜ start .place ≤ 134217728 ⌝ }
+    ensures { λ r. ⌜ heldNext r ≡ taken (heldDue (due .entry)) (start .place) (start .fields) (now (section .entry)) (now (after .entry)) ⌝ }
+{
+    let mut made = None;
+    let last = match due {
+        Due::Identification => {
+            check_section(Kind::Identification, section, start)?;
+            Last::Identification
+        }
+        Due::Frame => {
+            check_section(Kind::Frame, section, start)?;
+            Last::Frame(grid_of(section))
+        }
+        Due::Product(grid) => {
+            check_section(Kind::Product, section, start)?;
+            Last::Product(grid, content(section))
+        }
+        Due::Packing(grid, product) => {
+            check_packing(section, start, grid.points)?;
+            Last::Packing(grid, product, packing_of(section))
+        }
+        Due::Bitmap(grid, product, packing) => {
+            check_section(Kind::Bitmap, section, start)?;
+            Last::Bitmap(grid, product, packing)
+        }
+        Due::Data(grid, product, packing) => {
+            check_data(section, start, packing.v, grid.points)?;
+            made = Some(Field {
+                frame: grid.frame,
+                product,
+                packing,
+                string: content(section),
+            });
+            Last::Data(grid)
+        }
+    };
+    Ok(Step {
+        last,
+        made,
+        rest: after,
+    })
+}
+
+/// Reads the next section, where no end mark stands.
+fn next_section<'a>(last: Last<&'a [u8]>, start: Start, rest: &'a [u8]) -> Result<Step<'a>, Fault>
+    requires { ⌜ start .place ≤ 134217728 ⌝ }
+    ensures { λ r. ⌜ heldNext r ≡ advance (heldLast (last .entry)) (start .place) (start .fields) (now (rest .entry)) ⌝ }
+{
+    let place = start.place as usize;
+    let fields = start.fields;
+    let [a, b, c, d, number, ..] = rest else {
+        return Err(Fault::Message(MessageFault::CutShort, Spot { place, fields }));
+    };
+    let Some(due) = announced(last, *number) else {
+        return Err(Fault::Message(
+            MessageFault::Order,
+            Spot {
+                place: place + 4,
+                fields,
+            },
+        ));
+    };
+    let length = u32::from_be_bytes([*a, *b, *c, *d]) as usize;
+    if length > rest.len() {
+        return Err(Fault::Message(MessageFault::CutShort, Spot { place, fields }));
+    }
+    let (section, after) = rest.split_at(length);
+    read_section(due, start, section, after)
+}
+
 /// Whether the end mark stands here, which it may only after a section 7.
-fn at_end(last: Last<&[u8]>, rest: &[u8]) -> bool
-    ensures { λ r. ⌜ Decides r (Ended (heldLast (last .entry)) (now (rest .entry))) ⌝ }
+fn at_end(last: &Last<&[u8]>, rest: &[u8]) -> bool
+    ensures { λ r. ⌜ Decides r (Ended (heldLast (now (last .entry))) (now (rest .entry))) ⌝ }
 {
     match (last, rest) {
         (Last::Data(_), [b'7', b'7', b'7', b'7', ..]) => true,
@@ -63,13 +212,22 @@ pub fn check_message(octets: &[u8]) -> Result<usize, Fault>
     let mut rest = &octets[16..];
     loop {
         let place = octets.len() - rest.len();
-        if at_end(last, rest) {
+        if at_end(&last, rest) {
             if rest.len() > 4 {
-                return Err(Fault::Message(MessageFault::AfterEnd, Spot { place: place + 4, fields }));
+                return Err(Fault::Message(
+                    MessageFault::AfterEnd,
+                    Spot {
+                        place: place + 4,
+                        fields,
+                    },
+                ));
             }
             return Ok(fields);
         }
-        let start = Start { place: place as u32, fields };
+        let start = Start {
+            place: place as u32,
+            fields,
+        };
         let step = next_section(last, start, rest)?;
         if step.made.is_some() {
             fields += 1;

@@ -5,9 +5,9 @@ ghost use Rattle.format.specs.Numbers.{field, signed};
 ghost use Rattle.sections.specs.Sections.{packingOf, heldPacking};
 ghost use Rattle.sections.specs.Values.{values, valueOf};
 use crate::parts::from_place;
+use format::numbers::TOP_OF_TWO;
 use format::numbers::field;
 use format::numbers::signed;
-use format::numbers::TOP_OF_TWO;
 
 /// What section 5 says; `P` holds a part of the octets.
 #[derive(Clone, Copy)]

@@ -12,9 +12,9 @@ use format::fault::InSection;
 use format::fault::SectionFault;
 use format::fault::Spot;
 use format::fault::Start;
+use format::numbers::TOP_OF_FOUR;
 use format::numbers::field;
 use format::numbers::signed;
-use format::numbers::TOP_OF_FOUR;
 
 /// A field of one value: its first octet counted from 1, its width in octets, and the value.
 #[derive(Clone, Copy)]
@@ -40,7 +40,9 @@ pub enum Rule {
     /// A template number of one value.
     Template(Row),
     /// A product template that is known.
-    ProductTemplate { octet: u16 },
+    ProductTemplate {
+        octet: u16,
+    },
     /// A field that another section sets.
     Equals(Row),
     /// A field from `low` to `high`.
@@ -51,11 +53,20 @@ pub enum Rule {
         high: u32,
     },
     /// A field of two octets that is at most the one at `most`.
-    AtMost { octet: u16, most: u16 },
+    AtMost {
+        octet: u16,
+        most: u16,
+    },
     /// A day of the month at `month` in the year at `year`.
-    Day { octet: u16, year: u16, month: u16 },
+    Day {
+        octet: u16,
+        year: u16,
+        month: u16,
+    },
     /// A latitude from -90,000,000 to 90,000,000.
-    Latitude { octet: u16 },
+    Latitude {
+        octet: u16,
+    },
     /// The counts at `columns` and at `octet` multiply to the points.
     Cells {
         octet: u16,
@@ -63,20 +74,28 @@ pub enum Rule {
         points: u16,
     },
     /// A latitude that equals the one at `first` if the count at `count` is 1, and is below it otherwise.
-    South { octet: u16, first: u16, count: u16 },
+    South {
+        octet: u16,
+        first: u16,
+        count: u16,
+    },
     /// A longitude that equals the one at `first` if the count at `count` is 1, and is above it otherwise.
-    East { octet: u16, first: u16, count: u16 },
+    East {
+        octet: u16,
+        first: u16,
+        count: u16,
+    },
 }
 
 /// The signed number in four octets.
-pub fn latitude(section: &[u8], octet: u16) -> i32
+pub(crate) fn latitude(section: &[u8], octet: u16) -> i32
     ensures { λ r. ⌜ r ≡ signed 2147483648 (field (now (section .entry)) octet 4) ⌝ }
 {
     signed(field(section, octet as usize, 4) as u32, TOP_OF_FOUR) as i32
 }
 
 /// The days of a month from 1 to 12 in the Gregorian calendar.
-pub fn days_in(year: u64, month: u64) -> u64
+fn days_in(year: u64, month: u64) -> u64
     ensures { λ r. ⌜ r ≡ daysIn year month ⌝ }
 {
     let leap = year % 4 == 0 && (year % 100 != 0 || year % 400 == 0);
@@ -101,7 +120,7 @@ fn product_length(section: &[u8]) -> usize
 
 impl Rule {
     /// Whether the section keeps the rule.
-    pub fn keeps(self, section: &[u8]) -> bool
+    fn keeps(self, section: &[u8]) -> bool
         ensures { λ r. ⌜ r ≡ checkOf self .passes (now (section .entry)) ⌝ }
     {
         match self {
@@ -110,7 +129,10 @@ impl Rule {
             Rule::ProductLength => section.len() == product_length(section),
             Rule::TableLength => section.len() == 17 + 2 * field(section, 15, 2) as usize,
             Rule::Fixed(row) | Rule::Template(row) | Rule::Equals(row) => row.stands(section),
-            Rule::ProductTemplate { octet } => matches!(field(section, octet as usize, 2), 0 | 50008 | 50011 | 50009),
+            Rule::ProductTemplate { octet } => matches!(
+                field(section, octet as usize, 2),
+                0 | 50008 | 50011 | 50009
+            ),
             Rule::Within {
                 octet,
                 width,
@@ -120,25 +142,36 @@ impl Rule {
                 let n = field(section, octet as usize, width as usize);
                 u64::from(low) <= n && n <= u64::from(high)
             }
-            Rule::AtMost { octet, most } => field(section, octet as usize, 2) <= field(section, most as usize, 2),
+            Rule::AtMost { octet, most } => field(section, octet as usize, 2)
+                <= field(section, most as usize, 2),
             Rule::Day { octet, year, month } => day_keeps(section, octet, year, month),
             Rule::Latitude { octet } => latitude(section, octet).unsigned_abs() <= 90_000_000,
             Rule::Cells {
                 octet,
                 columns,
                 points,
-            } => field(section, columns as usize, 4) * field(section, octet as usize, 4) == field(section, points as usize, 4),
-            Rule::South { octet, first, count } => south_keeps(section, octet, first, count),
-            Rule::East { octet, first, count } => east_keeps(section, octet, first, count),
+            } => field(section, columns as usize, 4) * field(section, octet as usize, 4)
+                == field(section, points as usize, 4),
+            Rule::South {
+                octet,
+                first,
+                count,
+            } => south_keeps(section, octet, first, count),
+            Rule::East {
+                octet,
+                first,
+                count,
+            } => east_keeps(section, octet, first, count),
         }
     }
 
     /// The fault of a section that breaks the rule.
-    pub fn fault(self) -> SectionFault
+    fn fault(self) -> SectionFault
         ensures { λ r. ⌜ sectionNumber r ≡ checkOf self .tells .number ⌝ }
     {
         match self {
-            Rule::Length(_) | Rule::LengthFrom(_) | Rule::ProductLength | Rule::TableLength => SectionFault::Length,
+            Rule::Length(_) | Rule::LengthFrom(_) | Rule::ProductLength | Rule::TableLength =>
+                SectionFault::Length,
             Rule::Fixed(_) => SectionFault::Fixed,
             Rule::Template(_) | Rule::ProductTemplate { octet: _ } => SectionFault::Template,
             _ => SectionFault::Value,
@@ -146,7 +179,7 @@ impl Rule {
     }
 
     /// The octet that it is told at.
-    pub fn octet(self) -> u16
+    fn octet(self) -> u16
         ensures { λ r. ⌜ r ≡ checkOf self .tells .octet ⌝ }
     {
         match self {
@@ -186,7 +219,7 @@ impl Rule {
 
 impl Row {
     /// Whether the section has the row's value in its field.
-    pub fn stands(self, section: &[u8]) -> bool
+    fn stands(self, section: &[u8]) -> bool
         ensures { λ r. ⌜ r ≡ eqb (field (now (section .entry)) (self .octet) (self .width)) (self .value) ⌝ }
     {
         field(section, self.octet as usize, self.width as usize) == u64::from(self.value)
@@ -197,7 +230,10 @@ fn day_keeps(section: &[u8], octet: u16, year: u16, month: u16) -> bool
     ensures { λ r. ⌜ r ≡ checkOf (rule.Day octet year month) .passes (now (section .entry)) ⌝ }
 {
     let day = field(section, octet as usize, 1);
-    let days = days_in(field(section, year as usize, 2), field(section, month as usize, 1));
+    let days = days_in(
+        field(section, year as usize, 2),
+        field(section, month as usize, 1),
+    );
     1 <= day && day <= days
 }
 
@@ -226,7 +262,12 @@ fn east_keeps(section: &[u8], octet: u16, first: u16, count: u16) -> bool
 }
 
 /// The first of the rules that a section of that number breaks.
-pub fn check_rules(section: &[u8], number: u8, start: Start, rules: &[Rule]) -> Result<(), InSection>
+pub(crate) fn check_rules(
+    section: &[u8],
+    number: u8,
+    start: Start,
+    rules: &[Rule],
+) -> Result<(), InSection>
     ensures first { λ r. ⌜ refusedInSection r ≡ judged (layer.Section number) (start .place) (start .fields) (judge (checksFor (now (rules .entry))) (now (section .entry))) tt ⌝ }
     ensures law { λ _. ⌜ FirstDecides ⌝ }
 {

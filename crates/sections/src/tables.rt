@@ -5,9 +5,9 @@ ghost use Rattle.format.specs.declared.fault.Layer.the-variants as layer;
 ghost use Rattle.sections.specs.Rules.{judge, judged, checksFor};
 ghost use Rattle.sections.specs.Sections.{packingRules};
 ghost use Rattle.sections.specs.Kinds.{rulesOf, numberOf};
-use crate::rules::check_rules;
 use crate::rules::Row;
 use crate::rules::Rule;
+use crate::rules::check_rules;
 use format::fault::InSection;
 use format::fault::Start;
 use format::limits::MOST_CELLS;
@@ -71,43 +71,151 @@ pub const IDENTIFICATION_RULES: [Rule; 8] = [
 /// What section 3 is checked for, in octet order; a packer writes the fields of one value from here too.
 pub const FRAME_RULES: [Rule; 26] = [
     Rule::Length(72),
-    Rule::Fixed(Row { octet: 6, width: 1, value: 0 }),
-    Rule::Within { octet: 7, width: 4, low: 1, high: MOST_CELLS },
-    Rule::Fixed(Row { octet: 11, width: 1, value: 0 }),
-    Rule::Fixed(Row { octet: 12, width: 1, value: 0 }),
-    Rule::Template(Row { octet: 13, width: 2, value: 0 }),
-    Rule::Fixed(Row { octet: 15, width: 1, value: 4 }),
-    Rule::Fixed(Row { octet: 16, width: 1, value: 255 }),
-    Rule::Fixed(Row { octet: 17, width: 4, value: 0xFFFF_FFFF }),
-    Rule::Fixed(Row { octet: 21, width: 1, value: 1 }),
-    Rule::Fixed(Row { octet: 22, width: 4, value: 63_781_370 }),
-    Rule::Fixed(Row { octet: 26, width: 1, value: 1 }),
-    Rule::Fixed(Row { octet: 27, width: 4, value: 63_567_523 }),
-    Rule::Within { octet: 31, width: 4, low: 1, high: MOST_SIDE },
-    Rule::Within { octet: 35, width: 4, low: 1, high: MOST_SIDE },
-    Rule::Cells { octet: 35, columns: 31, points: 7 },
-    Rule::Fixed(Row { octet: 39, width: 4, value: 0 }),
-    Rule::Fixed(Row { octet: 43, width: 4, value: 0xFFFF_FFFF }),
+    Rule::Fixed(Row {
+        octet: 6,
+        width: 1,
+        value: 0,
+    }),
+    Rule::Within {
+        octet: 7,
+        width: 4,
+        low: 1,
+        high: MOST_CELLS,
+    },
+    Rule::Fixed(Row {
+        octet: 11,
+        width: 1,
+        value: 0,
+    }),
+    Rule::Fixed(Row {
+        octet: 12,
+        width: 1,
+        value: 0,
+    }),
+    Rule::Template(Row {
+        octet: 13,
+        width: 2,
+        value: 0,
+    }),
+    Rule::Fixed(Row {
+        octet: 15,
+        width: 1,
+        value: 4,
+    }),
+    Rule::Fixed(Row {
+        octet: 16,
+        width: 1,
+        value: 255,
+    }),
+    Rule::Fixed(Row {
+        octet: 17,
+        width: 4,
+        value: 0xFFFF_FFFF,
+    }),
+    Rule::Fixed(Row {
+        octet: 21,
+        width: 1,
+        value: 1,
+    }),
+    Rule::Fixed(Row {
+        octet: 22,
+        width: 4,
+        value: 63_781_370,
+    }),
+    Rule::Fixed(Row {
+        octet: 26,
+        width: 1,
+        value: 1,
+    }),
+    Rule::Fixed(Row {
+        octet: 27,
+        width: 4,
+        value: 63_567_523,
+    }),
+    Rule::Within {
+        octet: 31,
+        width: 4,
+        low: 1,
+        high: MOST_SIDE,
+    },
+    Rule::Within {
+        octet: 35,
+        width: 4,
+        low: 1,
+        high: MOST_SIDE,
+    },
+    Rule::Cells {
+        octet: 35,
+        columns: 31,
+        points: 7,
+    },
+    Rule::Fixed(Row {
+        octet: 39,
+        width: 4,
+        value: 0,
+    }),
+    Rule::Fixed(Row {
+        octet: 43,
+        width: 4,
+        value: 0xFFFF_FFFF,
+    }),
     Rule::Latitude { octet: 47 },
-    Rule::Within { octet: 51, width: 4, low: 0, high: 360_000_000 },
-    Rule::Fixed(Row { octet: 55, width: 1, value: 0x30 }),
+    Rule::Within {
+        octet: 51,
+        width: 4,
+        low: 0,
+        high: 360_000_000,
+    },
+    Rule::Fixed(Row {
+        octet: 55,
+        width: 1,
+        value: 0x30,
+    }),
     Rule::Latitude { octet: 56 },
-    Rule::South { octet: 56, first: 47, count: 35 },
-    Rule::Within { octet: 60, width: 4, low: 0, high: 360_000_000 },
-    Rule::East { octet: 60, first: 51, count: 31 },
-    Rule::Fixed(Row { octet: 72, width: 1, value: 0 }),
+    Rule::South {
+        octet: 56,
+        first: 47,
+        count: 35,
+    },
+    Rule::Within {
+        octet: 60,
+        width: 4,
+        low: 0,
+        high: 360_000_000,
+    },
+    Rule::East {
+        octet: 60,
+        first: 51,
+        count: 31,
+    },
+    Rule::Fixed(Row {
+        octet: 72,
+        width: 1,
+        value: 0,
+    }),
 ];
 
 /// What section 4 is checked for, in octet order.
 pub const PRODUCT_RULES: [Rule; 4] = [
     Rule::LengthFrom(9),
-    Rule::Fixed(Row { octet: 6, width: 2, value: 0 }),
+    Rule::Fixed(Row {
+        octet: 6,
+        width: 2,
+        value: 0,
+    }),
     Rule::ProductTemplate { octet: 8 },
     Rule::ProductLength,
 ];
 
 /// What section 6 is checked for.
-pub const BITMAP_RULES: [Rule; 2] = [Rule::Length(6), Rule::Fixed(Row { octet: 6, width: 1, value: 255 })];
+pub const BITMAP_RULES: [Rule; 2] = [
+    Rule::Length(6),
+    Rule::Fixed(Row {
+        octet: 6,
+        width: 1,
+        value: 255,
+    }),
+];
 
 /// What section 7 is checked for, its string apart.
 pub const DATA_RULES: [Rule; 1] = [Rule::LengthFrom(5)];
@@ -142,12 +250,37 @@ fn packing_rules(points: u32) -> [Rule; 8]
 {
     [
         Rule::LengthFrom(17),
-        Rule::Equals(Row { octet: 6, width: 4, value: points }),
-        Rule::Template(Row { octet: 10, width: 2, value: 200 }),
-        Rule::Fixed(Row { octet: 12, width: 1, value: 8 }),
-        Rule::AtMost { octet: 13, most: 15 },
-        Rule::Within { octet: 15, width: 2, low: 1, high: 252 },
-        Rule::Within { octet: 17, width: 1, low: 0, high: 6 },
+        Rule::Equals(Row {
+            octet: 6,
+            width: 4,
+            value: points,
+        }),
+        Rule::Template(Row {
+            octet: 10,
+            width: 2,
+            value: 200,
+        }),
+        Rule::Fixed(Row {
+            octet: 12,
+            width: 1,
+            value: 8,
+        }),
+        Rule::AtMost {
+            octet: 13,
+            most: 15,
+        },
+        Rule::Within {
+            octet: 15,
+            width: 2,
+            low: 1,
+            high: 252,
+        },
+        Rule::Within {
+            octet: 17,
+            width: 1,
+            low: 0,
+            high: 6,
+        },
         Rule::TableLength,
     ]
 }

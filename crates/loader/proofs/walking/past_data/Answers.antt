@@ -14,4 +14,4 @@ pub returns : need.returns
 returns c =
     at-data (c .args .grid) (c .args .rest .now) (c .args .product .now) (heldPacking (c .args .packing)) (c .pre) .on
     ∙ ap₂ {B = List ℕ} {C = FieldList} (λ (a b : List ℕ). record { frame = c .args .grid .frame; product = c .args .product .now; packing = heldPacking (c .args .packing); string = a } ∷ coming (last.Data (c .args .grid)) b)
-      (ap content (sym (c .hop .ensures .section)) ∙ sym (c .content .ensures)) (sym (c .hop .ensures .after))
+    (ap content (sym (c .hop .ensures .section)) ∙ sym (c .content .ensures)) (sym (c .hop .ensures .after))

@@ -37,6 +37,6 @@ loop-last-again c =
     let made = c .in-Continue-step .step .made in
     goes (c .loop-last .inv) _ _ (λ e. both-ways _ (c .if-at-end .left) (c .at-end .ensures .1 e)) (c .in-Continue-step .ensures tt) (one-made made)
     (elim (c .if-is-some .came) [
-      then-is-some w ↦ w .fields-is ∙ ap (λ n. c .loop-last .fields + n) (sym (some-made made (sym (c .is-some .ensures) ∙ w .if-is-some .taken)))
-    | else-is-some w ↦ w .fields-is ∙ sym (omega (arith, none-made made (sym (c .is-some .ensures) ∙ w .if-is-some .left)))
+      | then-is-some w ↦ w .fields-is ∙ ap (λ n. c .loop-last .fields + n) (sym (some-made made (sym (c .is-some .ensures) ∙ w .if-is-some .taken)))
+      | else-is-some w ↦ w .fields-is ∙ sym (omega (arith, none-made made (sym (c .is-some .ensures) ∙ w .if-is-some .left)))
     ])

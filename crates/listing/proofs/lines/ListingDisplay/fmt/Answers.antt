@@ -23,6 +23,6 @@ returns g c = λ p ok.
     let y = c .write-fields .ensures (x .plain) ok in
     let self = c .args .self .now in
     let text : topLines (self .octets) (c .count-fields .result) ++ fieldsLines 0 (ahead (c .fields .result)) ≡ textOf self =
-        ap₂ (λ n fs. topLines (self .octets) n ++ fieldsLines 0 fs) (c .count-fields .ensures) (c .fields .ensures)
-        ∙ ap (λ e. writtenOf e (self .octets) (heldFields (self .loader))) (sym (c .in-rest .is)) in
+    ap₂ (λ n fs. topLines (self .octets) n ++ fieldsLines 0 fs) (c .count-fields .ensures) (c .fields .ensures)
+    ∙ ap (λ e. writtenOf e (self .octets) (heldFields (self .loader))) (sym (c .in-rest .is)) in
     put-is (g .W·Write .took) _ _ _ _ text (put-more (g .W·Write .took) _ _ _ _ _ x y)

@@ -42,7 +42,7 @@ returns c =
     let fits : SFits w32 (c .latitude-of .result) = search needs in
     let level : leZ (f .la2) (f .la1) ≡ true = grind (arith, ints, c .if-self .left) in
     let inside : covers f (c .args .column) (c .args .row) ≡ true =
-        rw (lt-ltb (c .args .column) (f .ni) (c .if-column-self .left), lt-ltb (c .args .row) (f .nj) (c .if-row-self .left), le-leb (f .lo1) (f .lo2) (c .if-self-2 .left), level) refl in
+    rw (lt-ltb (c .args .column) (f .ni) (c .if-column-self .left), lt-ltb (c .args .row) (f .nj) (c .if-row-self .left), le-leb (f .lo1) (f .lo2) (c .if-self-2 .left), level) refl in
     record {
       position = (λ i. Some (record { latitude = (toZ-ofZ w32 (c .latitude-of .result) fits ∙ c .latitude-of .ensures) i; longitude = c .longitude-of .ensures i })) ∙ sym (cond-true _ _ _ inside);
       rounds = halves-up;

@@ -1,7 +1,7 @@
 use lib.ListN.{length}
 use Rattle.messages.specs.Order.{heldField}
 use Rattle.listing.proofs.Measures.{shortest}
-use Rattle.listing.proofs.figures.figures_of.Needs as need
+use Rattle.listing.proofs.lines.figures_of.Needs as need
 
 pub returns : need.returns
 returns c =

@@ -5,7 +5,7 @@ use lib.ListN.{length}
 use borrow.Author.Tests.{ltb-false}
 use Rattle.messages.specs.Messages.{stated}
 use Rattle.messages.proofs.Stepping.{stated-is, step-ends}
-use Rattle.messages.proofs.steps.next_section.Needs as need
+use Rattle.messages.proofs.reading.next_section.Needs as need
 
 pub returns : need.returns
 returns c =
