@@ -171,7 +171,7 @@ fn next_section<'a>(last: Last<&'a [u8]>, start: Start, rest: &'a [u8]) -> Resul
 {
     let place = start.place as usize;
     let fields = start.fields;
-    let [a, b, c, d, number, ..] = rest else {
+    let [a, b, c, d, number, content @ ..] = rest else {
         return Err(Fault::Message(MessageFault::CutShort, Spot { place, fields }));
     };
     let Some(due) = announced(last, *number) else {
@@ -184,7 +184,7 @@ fn next_section<'a>(last: Last<&'a [u8]>, start: Start, rest: &'a [u8]) -> Resul
         ));
     };
     let length = u32::from_be_bytes([*a, *b, *c, *d]) as usize;
-    if length > rest.len() {
+    if length > 5 + content.len() {
         return Err(Fault::Message(MessageFault::CutShort, Spot { place, fields }));
     }
     let (section, after) = rest.split_at(length);
