@@ -229,17 +229,41 @@ def along(span, count, k):
 
 
 def position(frame, column, row):
-    if column >= frame["ni"] or row >= frame["nj"]:
-        return "none"
-    latitude = frame["la1"] - along(frame["la1"] - frame["la2"], frame["nj"], row)
-    longitude = frame["lo1"] + along(frame["lo2"] - frame["lo1"], frame["ni"], column)
-    return f"{latitude} {longitude}"
+    out = [("column", column), ("row", row)]
+    if column < frame["ni"] and row < frame["nj"]:
+        out.append(("latitude", frame["la1"] - along(frame["la1"] - frame["la2"], frame["nj"], row)))
+        out.append(("longitude", frame["lo1"] + along(frame["lo2"] - frame["lo1"], frame["ni"], column)))
+    return out
 
 
 def value(packing, level):
     if level == 0 or level > len(packing["table"]):
-        return "none"
-    return f"{packing['table'][level - 1]} {packing['scale']}"
+        return [("level without value", level)]
+    return [("level", level), ("value", packing["table"][level - 1]), ("scale", packing["scale"])]
+
+
+def listing(s, fields):
+    out = [("octets", len(s)), ("fields", len(fields))]
+    for k, (frame, _, packing, string) in enumerate(fields):
+        highest = max(level for _, level, _ in runs(string, packing["v"]))
+        out += [("field", k), ("width", frame["ni"]), ("height", frame["nj"]), ("highest", highest)]
+        out += [("string", len(string)), ("shortest", shortest(string, packing["v"]))]
+    return out
+
+
+def parts(identification, fields):
+    i = identification
+    out = [("centre", num(i, 1, 2)), ("subcentre", num(i, 3, 4)), ("tables", i[4]), ("local", i[5]), ("meaning", i[6]), ("year", num(i, 8, 9))]
+    out += zip(("month", "day", "hour", "minute", "second", "status", "kind"), i[9:])
+    for frame, product, packing, _ in fields:
+        out += [(name, frame[name]) for name in ("ni", "nj", "la1", "lo1", "la2", "lo2", "di", "dj")]
+        m, ni, nj = len(packing["table"]), frame["ni"], frame["nj"]
+        out += [("product", len(product)), ("v", packing["v"]), ("m", m), ("e", packing["scale"])]
+        for level in (0, 1, m // 2, m, m + 1):
+            out += value(packing, level)
+        for column, row in ((0, 0), (ni // 2, nj // 2), (ni - 1, nj - 1), (ni, 0), (0, nj)):
+            out += position(frame, column, row)
+    return out + [("refused", 13)]
 
 
 def text(s):
@@ -247,24 +271,7 @@ def text(s):
         identification, fields = load(s)
     except Refused as e:
         return e.lines + "no message is held\n"
-    out = f"octets={len(s)}\nfields={len(fields)}\n"
-    for k, (frame, _, packing, string) in enumerate(fields):
-        highest = max(level for _, level, _ in runs(string, packing["v"]))
-        out += f"field={k}\nwidth={frame['ni']}\nheight={frame['nj']}\nhighest={highest}\n"
-        out += f"string={len(string)}\nshortest={shortest(string, packing['v'])}\n"
-    i = identification
-    stamp = f"{num(i, 8, 9)}-{i[9]}-{i[10]} {i[11]}:{i[12]}:{i[13]}"
-    out += f"centre={num(i, 1, 2)} {num(i, 3, 4)} tables={i[4]} {i[5]} meaning={i[6]} time={stamp} status={i[14]} kind={i[15]}\n"
-    for k, (frame, product, packing, _) in enumerate(fields):
-        out += "frame {}:".format(k) + "".join(f" {frame[n]}" for n in ("ni", "nj", "la1", "lo1", "la2", "lo2", "di", "dj")) + "\n"
-        m = len(packing["table"])
-        out += f"product {k}: {len(product)} octets, packing: v={packing['v']} m={m} e={packing['scale']}\n"
-        for level in (0, 1, m // 2, m, m + 1):
-            out += f"value {k} {level}: {value(packing, level)}\n"
-        ni, nj = frame["ni"], frame["nj"]
-        for column, row in ((0, 0), (ni // 2, nj // 2), (ni - 1, nj - 1), (ni, 0), (0, nj)):
-            out += f"position {k} {column} {row}: {position(frame, column, row)}\n"
-    return out + f"field {len(fields)}: refused 13\n"
+    return "".join(f"{name}={number}\n" for name, number in listing(s, fields) + parts(identification, fields))
 
 
 if __name__ == "__main__":
