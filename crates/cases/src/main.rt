@@ -1,6 +1,6 @@
 //! Prints what each of many messages gives: the names of their files come on standard input.
-use listing::lines::listing_of;
 use listing::lines::ListingDisplay;
+use listing::lines::listing_of;
 use loader::holder::Loader;
 use loader::walking::FieldsIterator;
 use messages::field::Field;
@@ -94,7 +94,14 @@ fn show_values(rt: &LibcRuntime, loader: &Loader<'_>, k: usize, most: usize) -> 
     let m = most.min(254) as u8;
     for level in [0, 1, m / 2, m, m + 1] {
         if let Ok(Some(value)) = loader.value(k, level) {
-            show(rt, &[("level", i64::from(level)), ("value", i64::from(value.number)), ("scale", i64::from(value.scale))])?;
+            show(
+                rt,
+                &[
+                    ("level", i64::from(level)),
+                    ("value", i64::from(value.number)),
+                    ("scale", i64::from(value.scale)),
+                ],
+            )?;
         } else {
             show(rt, &[("level without value", i64::from(level))])?;
         }
@@ -102,12 +109,27 @@ fn show_values(rt: &LibcRuntime, loader: &Loader<'_>, k: usize, most: usize) -> 
     Ok(())
 }
 
-fn show_positions(rt: &LibcRuntime, loader: &Loader<'_>, k: usize, ni: u32, nj: u32) -> io::Result<()> {
+fn show_positions(
+    rt: &LibcRuntime,
+    loader: &Loader<'_>,
+    k: usize,
+    ni: u32,
+    nj: u32,
+) -> io::Result<()> {
     let (east, south) = (ni.saturating_sub(1), nj.saturating_sub(1));
     for (column, row) in [(0, 0), (ni / 2, nj / 2), (east, south), (ni, 0), (0, nj)] {
-        show(rt, &[("column", i64::from(column)), ("row", i64::from(row))])?;
+        show(
+            rt,
+            &[("column", i64::from(column)), ("row", i64::from(row))],
+        )?;
         if let Ok(Some(at)) = loader.position(k, column, row) {
-            show(rt, &[("latitude", i64::from(at.latitude)), ("longitude", i64::from(at.longitude))])?;
+            show(
+                rt,
+                &[
+                    ("latitude", i64::from(at.latitude)),
+                    ("longitude", i64::from(at.longitude)),
+                ],
+            )?;
         }
     }
     Ok(())

@@ -8,6 +8,6 @@ ghost use Rattle.messages.specs.Meaning.{loadedAs, fieldsIn};
 #[derive(Clone, Copy)]
 pub struct Loader<'a> {
     pub(crate) octets: &'a [u8],
-    pub(crate) count: usize,
-    ghost known: { count ≡ length (fieldsIn (loadedAs (octets .now))) },
+    pub(crate) total: usize,
+    ghost known: { total ≡ length (fieldsIn (loadedAs (octets .now))) },
 }

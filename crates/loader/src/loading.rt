@@ -42,7 +42,7 @@ impl<'a> Loader<'a> {
     {
         Loader {
             octets: &[],
-            count: 0,
+            total: 0,
         }
     }
 
@@ -51,8 +51,8 @@ impl<'a> Loader<'a> {
         ensures loads { λ r. ⌜ Loaded (now (octets .entry)) (now (self .entry)) (now (self .exit)) r ⌝ }
         ensures laws { λ _. ⌜ MessageLaws ⌝ }
     {
-        let count = check_message(octets)?;
-        *self = Loader { octets, count };
+        let total = check_message(octets)?;
+        *self = Loader { octets, total };
         Ok(())
     }
 
@@ -60,14 +60,14 @@ impl<'a> Loader<'a> {
     pub fn count(&self) -> usize
         ensures { λ r. ⌜ r ≡ length (heldFields (now (self .entry))) ⌝ }
     {
-        self.count
+        self.total
     }
 
     /// The identification of the message that is held, if one is.
     pub fn identification(&self) -> Option<Identification>
         ensures { λ r. ⌜ r ≡ mapped (λ m. m .identification) (held (now (self .entry))) ⌝ }
     {
-        if self.count == 0 {
+        if self.count() == 0 {
             return None;
         }
         Some(identification_of(&self.octets[16..37]))
@@ -77,14 +77,15 @@ impl<'a> Loader<'a> {
     pub fn fields(&self) -> Fields<'a>
         ensures { λ r. ⌜ ahead r ≡ heldFields (now (self .entry)) ⌝ }
     {
-        if self.count == 0 {
+        let left = self.count();
+        if left == 0 {
             return no_fields();
         }
         let rest = from_place(self.octets, 37);
         Fields {
             grid: grid_of(rest),
             rest,
-            left: self.count,
+            left,
         }
     }
 
@@ -92,7 +93,7 @@ impl<'a> Loader<'a> {
     pub fn field(&self, k: usize) -> Result<Field<&'a [u8]>, Fault>
         ensures { λ r. ⌜ heldAnswer r ≡ asked itself (heldFields (now (self .entry))) k ⌝ }
     {
-        if k >= self.count {
+        if k >= self.count() {
             return Err(Fault::Chart(ChartFault::NoField));
         }
         let mut fields = self.fields();

@@ -5,8 +5,8 @@ use Rattle.loader.specs.Held.{heldFields, heldAnswer}
 use Rattle.loader.proofs.Paces.{stepped, answered, past}
 use Rattle.loader.proofs.holder.Loader.field.Needs as need
 
-pub returns-then-k-self : need.returns-then-k-self
-returns-then-k-self c = past (heldFields (c .args .self .now)) (c .args .k) (omega (arith, c .args .self .now .known))
+pub returns-then-k-count : need.returns-then-k-count
+returns-then-k-count c = past (heldFields (c .args .self .now)) (c .args .k) (omega (arith, c .count .ensures))
 
 pub loop-holds : need.loop-holds
 loop-holds c = c .fields-fields .ensures

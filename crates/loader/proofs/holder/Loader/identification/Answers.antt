@@ -8,16 +8,16 @@ use Rattle.loader.specs.Held.{heldFields}
 use Rattle.loader.proofs.Starting.{SomeLoaded, none-loaded, some-loaded}
 use Rattle.loader.proofs.holder.Loader.identification.Needs as need
 
-pub returns-then-self-eq0 : need.returns-then-self-eq0
-returns-then-self-eq0 c = ap (mapped (λ m. m .identification)) (sym (none-loaded _ (sym (c .args .self .now .known) ∙ c .if-self-eq0 .taken)))
+pub returns-then-count-eq0 : need.returns-then-count-eq0
+returns-then-count-eq0 c = ap (mapped (λ m. m .identification)) (sym (none-loaded _ (sym (c .count .ensures) ∙ c .if-count-eq0 .taken)))
 
 pub part-identification-of-end : need.part-identification-of-end
 part-identification-of-end c =
-    let some : 0 < length (heldFields (c .args .self .now)) = omega (arith, c .if-self-eq0 .left, c .args .self .now .known) in
+    let some : 0 < length (heldFields (c .args .self .now)) = omega (arith, c .if-count-eq0 .left, c .count .ensures) in
     omega (arith, some-loaded (c .args .self .now .octets .now) some .starts .long)
 
 pub returns : need.returns
 returns c =
-    let some : 0 < length (heldFields (c .args .self .now)) = omega (arith, c .if-self-eq0 .left, c .args .self .now .known) in
+    let some : 0 < length (heldFields (c .args .self .now)) = omega (arith, c .if-count-eq0 .left, c .count .ensures) in
     let h = some-loaded (c .args .self .now .octets .now) some in
     ap Some (c .identification-of .ensures ∙ sym (h .starts .says)) ∙ ap (mapped (λ m. m .identification)) (sym (h .is))
