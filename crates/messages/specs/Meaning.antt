@@ -40,8 +40,12 @@ dataVerdict v cells p n s = then (judged (layer.Section 7) p n (judge (checksFor
 abbrev pub verdict : Due (List ℕ) → ℕ → ℕ → List ℕ → Result (Unit {0}) Refusal
 verdict d p n s = then (judged (layer.Section (numberOf d)) p n (judge (checksFor (rulesOf d)) s) tt) (string.judged (p + 5) n (stringFault d s))
 
+-- what a section leaves that keeps its rules
+abbrev pub nextOf : Due (List ℕ) → List ℕ → List ℕ → Next
+nextOf d s after = record { last = leaves d s; made = finishes d s; rest = after }
+
 abbrev pub taken : Due (List ℕ) → ℕ → ℕ → List ℕ → List ℕ → Result Next Refusal
-taken d p n s after = then (verdict d p n s) (Ok (record { last = leaves d s; made = finishes d s; rest = after }))
+taken d p n s after = then (verdict d p n s) (Ok (nextOf d s after))
 
 abbrev pub chosen : Option (Due (List ℕ)) → ℕ → ℕ → List ℕ → Result Next Refusal
 chosen None p n r = Err (ofMessage 4 (p + 4) n)

@@ -2,13 +2,13 @@
 ghost use mathlib.Core.Path.{_≡_};
 ghost use Prim.Native.Nat.{_≤_};
 ghost use Rattle.std.specs.Orderings.{Decides};
-ghost use Rattle.format.specs.Refusals.{refused, refusedInSection};
+ghost use Rattle.format.specs.Refusals.{refusal, refused, refusedInSection, messageNumber};
 ghost use Rattle.format.specs.declared.fault.Layer.the-variants as layer;
 ghost use Rattle.sections.specs.Rules.{judge, judged};
 ghost use Rattle.messages.specs.Order.{heldLast, heldDue};
-ghost use Rattle.messages.specs.Messages.{Ended, headChecks};
-ghost use Rattle.messages.specs.Meaning.{dataVerdict, taken, advance, meaning, counted};
-ghost use Rattle.messages.specs.Steps.{heldNext};
+ghost use Rattle.messages.specs.Messages.{Ended, headChecks, ofMessage};
+ghost use Rattle.messages.specs.Meaning.{dataVerdict, verdict, nextOf, taken, advance, meaning, counted};
+ghost use Rattle.messages.specs.Steps.{heldStep, heldNext};
 ghost use Rattle.messages.specs.Laws.{MessageLaws};
 use crate::field::Field;
 use crate::field::grid_of;
@@ -39,63 +39,34 @@ pub(crate) struct Step<'a> {
     pub rest: &'a [u8],
 }
 
+/// A fault of section 0.
+fn at_head(fault: MessageFault, place: usize) -> Fault
+    ensures { λ r. ⌜ refusal r ≡ ofMessage (messageNumber fault) place 0 ⌝ }
+{
+    Fault::Message(fault, Spot { place, fields: 0 })
+}
+
 /// Checks section 0, at the start of the message.
 fn check_head(octets: &[u8]) -> Result<(), Fault>
     ensures { λ r. ⌜ refused r ≡ judged layer.Message 0 0 (judge headChecks (now (octets .entry))) tt ⌝ }
 {
     if octets.len() < 16 {
-        return Err(Fault::Message(
-            MessageFault::CutShort,
-            Spot {
-                place: 0,
-                fields: 0,
-            },
-        ));
+        return Err(at_head(MessageFault::CutShort, 0));
     }
     if field(octets, 1, 4) != 0x4752_4942 {
-        return Err(Fault::Message(
-            MessageFault::Indicator,
-            Spot {
-                place: 0,
-                fields: 0,
-            },
-        ));
+        return Err(at_head(MessageFault::Indicator, 0));
     }
     if field(octets, 5, 2) != 0xFFFF {
-        return Err(Fault::Message(
-            MessageFault::Indicator,
-            Spot {
-                place: 4,
-                fields: 0,
-            },
-        ));
+        return Err(at_head(MessageFault::Indicator, 4));
     }
     if field(octets, 7, 1) != 0 {
-        return Err(Fault::Message(
-            MessageFault::Indicator,
-            Spot {
-                place: 6,
-                fields: 0,
-            },
-        ));
+        return Err(at_head(MessageFault::Indicator, 6));
     }
     if field(octets, 8, 1) != 2 {
-        return Err(Fault::Message(
-            MessageFault::Indicator,
-            Spot {
-                place: 7,
-                fields: 0,
-            },
-        ));
+        return Err(at_head(MessageFault::Indicator, 7));
     }
     if field(octets, 9, 8) != octets.len() as u64 || octets.len() > MOST_OCTETS {
-        return Err(Fault::Message(
-            MessageFault::TotalLength,
-            Spot {
-                place: 8,
-                fields: 0,
-            },
-        ));
+        return Err(at_head(MessageFault::TotalLength, 8));
     }
     Ok(())
 }
@@ -114,6 +85,49 @@ fn check_data(section: &[u8], start: Start, v: u8, points: u32) -> Result<(), In
     Ok(())
 }
 
+/// Checks a section that may come here.
+fn check_due(due: &Due<&[u8]>, start: Start, section: &[u8]) -> Result<(), InSection>
+    requires { ⌜ start .place ≤ 134217728 ⌝ }
+    ensures { λ r. ⌜ refusedInSection r ≡ verdict (heldDue (now (due .entry))) (start .place) (start .fields) (now (section .entry)) ⌝ }
+{
+    match due {
+        Due::Identification => check_section(Kind::Identification, section, start),
+        Due::Frame => check_section(Kind::Frame, section, start),
+        Due::Product(_) => check_section(Kind::Product, section, start),
+        Due::Packing(grid, _) => check_packing(section, start, grid.points),
+        Due::Bitmap(_, _, _) => check_section(Kind::Bitmap, section, start),
+        Due::Data(grid, _, packing) => check_data(section, start, packing.v, grid.points),
+    }
+}
+
+/// What a section leaves that keeps its rules.
+fn step_of<'a>(due: Due<&'a [u8]>, section: &'a [u8], after: &'a [u8]) -> Step<'a>
+    ensures { λ r. ⌜ heldStep r ≡ nextOf (heldDue (due .entry)) (now (section .entry)) (now (after .entry)) ⌝ }
+{
+    let mut made = None;
+    let last = match due {
+        Due::Identification => Last::Identification,
+        Due::Frame => Last::Frame(grid_of(section)),
+        Due::Product(grid) => Last::Product(grid, content(section)),
+        Due::Packing(grid, product) => Last::Packing(grid, product, packing_of(section)),
+        Due::Bitmap(grid, product, packing) => Last::Bitmap(grid, product, packing),
+        Due::Data(grid, product, packing) => {
+            made = Some(Field {
+                frame: grid.frame,
+                product,
+                packing,
+                string: content(section),
+            });
+            Last::Data(grid)
+        }
+    };
+    Step {
+        last,
+        made,
+        rest: after,
+    }
+}
+
 /// Reads a section that may come here, with the octets after it.
 fn read_section<'a>(
     due: Due<&'a [u8]>,
@@ -124,44 +138,8 @@ fn read_section<'a>(
     requires { ⌜ start .place ≤ 134217728 ⌝ }
     ensures { λ r. ⌜ heldNext r ≡ taken (heldDue (due .entry)) (start .place) (start .fields) (now (section .entry)) (now (after .entry)) ⌝ }
 {
-    let mut made = None;
-    let last = match due {
-        Due::Identification => {
-            check_section(Kind::Identification, section, start)?;
-            Last::Identification
-        }
-        Due::Frame => {
-            check_section(Kind::Frame, section, start)?;
-            Last::Frame(grid_of(section))
-        }
-        Due::Product(grid) => {
-            check_section(Kind::Product, section, start)?;
-            Last::Product(grid, content(section))
-        }
-        Due::Packing(grid, product) => {
-            check_packing(section, start, grid.points)?;
-            Last::Packing(grid, product, packing_of(section))
-        }
-        Due::Bitmap(grid, product, packing) => {
-            check_section(Kind::Bitmap, section, start)?;
-            Last::Bitmap(grid, product, packing)
-        }
-        Due::Data(grid, product, packing) => {
-            check_data(section, start, packing.v, grid.points)?;
-            made = Some(Field {
-                frame: grid.frame,
-                product,
-                packing,
-                string: content(section),
-            });
-            Last::Data(grid)
-        }
-    };
-    Ok(Step {
-        last,
-        made,
-        rest: after,
-    })
+    check_due(&due, start, section)?;
+    Ok(step_of(due, section, after))
 }
 
 /// Reads the next section, where no end mark stands.

@@ -138,10 +138,7 @@ impl Rule {
                 width,
                 low,
                 high,
-            } => {
-                let n = field(section, octet as usize, width as usize);
-                u64::from(low) <= n && n <= u64::from(high)
-            }
+            } => within_keeps(section, octet, width, low, high),
             Rule::AtMost { octet, most } => field(section, octet as usize, 2)
                 <= field(section, most as usize, 2),
             Rule::Day { octet, year, month } => day_keeps(section, octet, year, month),
@@ -224,6 +221,13 @@ impl Row {
     {
         field(section, self.octet as usize, self.width as usize) == u64::from(self.value)
     }
+}
+
+fn within_keeps(section: &[u8], octet: u16, width: u8, low: u32, high: u32) -> bool
+    ensures { λ r. ⌜ r ≡ checkOf (rule.Within octet width low high) .passes (now (section .entry)) ⌝ }
+{
+    let n = field(section, octet as usize, width as usize);
+    u64::from(low) <= n && n <= u64::from(high)
 }
 
 fn day_keeps(section: &[u8], octet: u16, year: u16, month: u16) -> bool
