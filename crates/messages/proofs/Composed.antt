@@ -26,6 +26,7 @@ use Rattle.messages.specs.Order.{follows}
 use Rattle.messages.specs.Messages.{Message, Means, Reads, Outcome, Ended, headChecks, stated, mark, gridOf, numberOf, rulesOf, stringFault, leaves, finishes}
 use Rattle.messages.specs.Messages.Reads.{whole, sound}
 use Rattle.messages.specs.Messages.Means.{headless, headed}
+use Rattle.messages.specs.Content.{ContentLaw}
 use Rattle.messages.specs.Laws.{MessageLaws}
 use Rattle.messages.specs.Composition.{IsSection, IsField, AreFields, IsMessage, Composition}
 use Rattle.messages.specs.Composition.AreFields.{none, own, under}
@@ -145,5 +146,11 @@ loads s m h =
 pub composition : Composition
 composition s m octets = ((λ h. is-message h octets m refl), loads s m)
 
+content-law : ContentLaw
+content-law s c octets = (
+  (λ h. record { message = h .message; is = composition s (h .message) octets .0 (h .loads); says = h .says }),
+  (λ h. record { message = h .message; loads = composition s (h .message) octets .1 (h .is); says = h .says }),
+)
+
 pub message-laws : MessageLaws
-message-laws = record { one = one-outcome; composed = composition; lawful = lawful-fields }
+message-laws = record { one = one-outcome; composed = composition; content = content-law; lawful = lawful-fields }

@@ -5,3 +5,4 @@ pub mod Steps
 pub mod Laws
 pub mod Composition
 pub mod Lawful
+pub mod Content

@@ -266,7 +266,7 @@ fn east_keeps(section: &[u8], octet: u16, first: u16, count: u16) -> bool
 }
 
 /// The first of the rules that a section of that number breaks.
-pub(crate) fn check_rules(
+pub fn check_rules(
     section: &[u8],
     number: u8,
     start: Start,
