@@ -84,7 +84,7 @@ fn show_field(rt: &LibcRuntime, field: &Field<&[u8]>) -> io::Result<()> {
             ("dj", i64::from(f.dj)),
             ("product", field.product.len() as i64),
             ("v", i64::from(field.packing.v)),
-            ("m", field.packing.most() as i64),
+            ("m", field.packing.most().min(255) as i64),
             ("e", i64::from(field.packing.scale)),
         ],
     )
