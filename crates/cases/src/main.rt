@@ -1,4 +1,6 @@
 //! Prints what each of many messages gives: the names of their files come on standard input.
+#![tactic(auto)]
+
 use listing::lines::listing_of;
 use loader::holder::Loader;
 use messages::field::Field;

@@ -1,4 +1,6 @@
 //! Charts: everything that shows a grid of levels answers its size and its runs, under one contract.
+#![tactic(auto)]
+
 pub mod cell;
 pub mod cell_chart;
 pub mod cells;

@@ -1,4 +1,6 @@
 //! Lists the message on standard input: `gridlist < message`.
+#![tactic(auto)]
+
 use listing::lines::listing_of;
 use std::io;
 use std::io::Read;

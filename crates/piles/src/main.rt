@@ -1,4 +1,6 @@
 //! Prints the levels of piles of charts over each of many messages: the names of their files come on standard input.
+#![tactic(auto)]
+
 use layers::show_piles;
 use loader::holder::Loader;
 use std::{fs, io};

@@ -1,4 +1,6 @@
 //! The sections of a message: what each is checked for, and what it says.
+#![tactic(auto)]
+
 pub mod frame;
 pub mod identification;
 pub mod packing;

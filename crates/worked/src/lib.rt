@@ -1,4 +1,6 @@
 //! Worked cases of the format, as one fact.
+#![tactic(auto)]
+
 ghost use Rattle.std.specs.Prelude.{◌≡◌};
 ghost use Rattle.worked.specs.Worked.{Worked};
 

@@ -23,8 +23,8 @@ reach b unit scale z fits low is narrow t e =
     let right : to_z w64 (of_z w64 z) ≡ z = to_z-of_z w64 z (record { sfits = omega (arith, fits.sfits) }) in
     sym (ap₂ le_z left right) ∙ e
 
-pub overflow-cast-least-in-loop-bound : goal.overflow-cast-least-in-loop-bound
-overflow-cast-least-in-loop-bound c =
+pub overflow_cast-least-in-loop-bound : goal.overflow_cast-least-in-loop-bound
+overflow_cast-least-in-loop-bound c =
     let low = rw c.in-Some.is at c.requires.scaled in
     let high = small _ _ c.in-Some.field-0.scale low c.pow-unit.ensures (c.type-inv.bounds c.loop-bound.bound-index).fits in
     record { sfits = omega arith }
@@ -44,8 +44,8 @@ loop-bound-preserved c =
       | else-number-least w ↦ omega (arith, w.lamp-is, c.loop-bound.invariant, count_by_more_no (reaches v) bounds i 0 (omega arith) (test false w.if-number-least.false))
     ]
 
-pub overflow-add-lamp : goal.overflow-add-lamp
-overflow-add-lamp c =
+pub overflow_add-lamp : goal.overflow_add-lamp
+overflow_add-lamp c =
     let i = c.loop-bound.bound-index in
     let bounds = c.args.bounds.now in
     let v : Value = record { number = to_z w32 (of_z w32 c.in-Some.field-0.number); scale = c.in-Some.field-0.scale } in

@@ -8,12 +8,12 @@ use Rattle.messages.proofs.reading.check_message.Goals as goal
 use Rattle.messages.proofs.reading.check_message.Goals.{then-is-some, else-is-some}
 
 pub loop-last-init : goal.loop-last-init
-loop-last-init c = start c.args.octets.now _ c.in-ok-check-head.ensures (between_to_end c.args.octets.now 16 _ (omega arith))
+loop-last-init c = start c.args.octets.now _ c.in_ok-check-head.ensures (between_to_end c.args.octets.now 16 _ (omega arith))
 
-pub returns-in-err-check-head : goal.returns-in-err-check-head
-returns-in-err-check-head c =
+pub returns-in_err-check-head : goal.returns-in_err-check-head
+returns-in_err-check-head c =
     let p = err_from_is_err_and c.from-residual.result c.from-residual.ensures.1 in
-    record { counts = rw (p.1, p.2) (head_refuses c.args.octets.now _ c.in-err-check-head.ensures); laws = message_laws }
+    record { counts = rw (p.1, p.2) (head_refuses c.args.octets.now _ c.in_err-check-head.ensures); laws = message_laws }
 
 pub returns-then-rest-gt4 : goal.returns-then-rest-gt4
 returns-then-rest-gt4 c = record { counts = trails c.loop-last.invariant (c.at_end.ensures.0 c.if-at-end.true) c.if-rest-gt4.true; laws = message_laws }
@@ -21,18 +21,18 @@ returns-then-rest-gt4 c = record { counts = trails c.loop-last.invariant (c.at_e
 pub returns-then-at-end : goal.returns-then-at-end
 returns-then-at-end c = record { counts = ends c.loop-last.invariant (c.at_end.ensures.0 c.if-at-end.true) c.if-rest-gt4.false; laws = message_laws }
 
-pub returns-in-err-step : goal.returns-in-err-step
-returns-in-err-step c =
-    let p = err_from_is_err_and c.from-residual-in-err-step.result c.from-residual-in-err-step.ensures.1 in
-    record { counts = rw (p.1, p.2) (fails c.loop-last.invariant _ (λ e. both_ways _ c.if-at-end.false (c.at_end.ensures.1 e)) c.in-err-step.ensures); laws = message_laws }
+pub returns-in_err-step : goal.returns-in_err-step
+returns-in_err-step c =
+    let p = err_from_is_err_and c.from-residual-in_err-step.result c.from-residual-in_err-step.ensures.1 in
+    record { counts = rw (p.1, p.2) (fails c.loop-last.invariant _ (λ e. both_ways _ c.if-at-end.false (c.at_end.ensures.1 e)) c.in_err-step.ensures); laws = message_laws }
 
 pub loop-last-smaller : goal.loop-last-smaller
-loop-last-smaller c = shorter c.loop-last.invariant _ (λ e. both_ways _ c.if-at-end.false (c.at_end.ensures.1 e)) c.in-ok-step.ensures
+loop-last-smaller c = shorter c.loop-last.invariant _ (λ e. both_ways _ c.if-at-end.false (c.at_end.ensures.1 e)) c.in_ok-step.ensures
 
 pub loop-last-preserved : goal.loop-last-preserved
 loop-last-preserved c =
-    let made = c.in-ok-step.step.made in
-    goes c.loop-last.invariant _ _ (λ e. both_ways _ c.if-at-end.false (c.at_end.ensures.1 e)) c.in-ok-step.ensures (one_made made)
+    let made = c.in_ok-step.step.made in
+    goes c.loop-last.invariant _ _ (λ e. both_ways _ c.if-at-end.false (c.at_end.ensures.1 e)) c.in_ok-step.ensures (one_made made)
     (elim c.if-is-some.branch [
       | then-is-some w ↦ w.fields-is ∙ ap (λ n. c.loop-last.fields + n) (sym (some_made made (sym c.is-some.ensures ∙ w.if-is-some.true)))
       | else-is-some w ↦ w.fields-is ∙ sym (omega (arith, none_made made (sym c.is-some.ensures ∙ w.if-is-some.false)))

@@ -6,8 +6,8 @@ use Rattle.runs.proofs.Digits.{digits_zero, digits_more, digits_few}
 use Rattle.runs.proofs.LengthLoop.{length_alike}
 use Rattle.runs.proofs.measuring.run_octets.Goals as goal
 
-pub overflow-add-octets : goal.overflow-add-octets
-overflow-add-octets c =
+pub overflow_add-octets : goal.overflow_add-octets
+overflow_add-octets c =
     omega (arith, ap length (digits_more (base c.args.v) c.loop-rest.rest (omega arith) (omega arith)), digits_few (base c.args.v) (c.args.cells - 1) (c.args.cells - 1))
 
 pub loop-rest-smaller : goal.loop-rest-smaller

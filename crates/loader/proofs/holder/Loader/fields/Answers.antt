@@ -5,8 +5,8 @@ use Rattle.loader.proofs.holder.Loader.fields.Goals as goal
 pub returns-then-left-eq0 : goal.returns-then-left-eq0
 returns-then-left-eq0 c = c.no-fields.ensures ∙ sym (no_length _ (sym c.count-left.ensures ∙ c.if-left-eq0.true))
 
-pub invariant-of-result : goal.invariant-of-result
-invariant-of-result c =
+pub invariant_of-result : goal.invariant_of-result
+invariant_of-result c =
     let known = c.count-left.ensures in
     (known ∙ ap length (fields_from c.args.self.now.octets.now _ _ (omega (arith, c.if-left-eq0.false)) c.from-place-rest.ensures), tt)
 

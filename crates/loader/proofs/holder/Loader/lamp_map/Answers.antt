@@ -6,5 +6,5 @@ use Rattle.loader.proofs.holder.Loader.lamp_map.Goals as goal
 pub lamps-of-requires : goal.lamps-of-requires
 lamps-of-requires c = record {
   few = omega arith;
-  scaled = (found-lawful c.args.self.now.octets.now _ (held_field c.in-ok-field.field) c.in-ok-field.ensures).scaled;
+  scaled = (found-lawful c.args.self.now.octets.now _ (held_field c.in_ok-field.field) c.in_ok-field.ensures).scaled;
 }

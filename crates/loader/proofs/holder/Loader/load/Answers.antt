@@ -4,13 +4,13 @@ use Rattle.messages.proofs.Composed.{message_laws}
 use Rattle.loader.proofs.Starting.{loads, refused}
 use Rattle.loader.proofs.holder.Loader.load.Goals as goal
 
-pub returns-in-err-total : goal.returns-in-err-total
-returns-in-err-total c =
+pub returns-in_err-total : goal.returns-in_err-total
+returns-in_err-total c =
     let p = err_from_is_err_and c.from-residual.result c.from-residual.ensures.1 in
-    record { loads = rw (p.1, p.2) (refused c.args.octets.now _ c.in-err-total.ensures.counts, refl); laws = message_laws }
+    record { loads = rw (p.1, p.2) (refused c.args.octets.now _ c.in_err-total.ensures.counts, refl); laws = message_laws }
 
-pub invariant-of-self : goal.invariant-of-self
-invariant-of-self c = ((loads c.args.octets.now _ c.in-ok-total.ensures.counts).0, tt)
+pub invariant_of-self : goal.invariant_of-self
+invariant_of-self c = ((loads c.args.octets.now _ c.in_ok-total.ensures.counts).0, tt)
 
 pub returns : goal.returns
-returns c = record { loads = (loads c.args.octets.now _ c.in-ok-total.ensures.counts).1; laws = message_laws }
+returns c = record { loads = (loads c.args.octets.now _ c.in_ok-total.ensures.counts).1; laws = message_laws }

@@ -3,8 +3,8 @@ use Rattle.messages.specs.Meaning.{fields_in}
 use Rattle.loader.proofs.Starting.{none_in}
 use Rattle.loader.proofs.holder.Loader.new.Goals as goal
 
-pub invariant-of-result : goal.invariant-of-result
-invariant-of-result c = (sym (ap (λ o. length (fields_in o)) none_in), tt)
+pub invariant_of-result : goal.invariant_of-result
+invariant_of-result c = (sym (ap (λ o. length (fields_in o)) none_in), tt)
 
 pub returns : goal.returns
 returns c = none_in

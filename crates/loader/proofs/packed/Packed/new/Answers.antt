@@ -4,9 +4,9 @@ use Rattle.runs.proofs.Levels.{loaded_low}
 use Rattle.loader.proofs.Steps.{stands_none}
 use Rattle.loader.proofs.packed.Packed.new.Goals as goal
 
-pub invariant-of-result-2 : goal.invariant-of-result-2
+pub invariant_of-result-2 : goal.invariant_of-result-2
 unfolding leading_digits runs
-invariant-of-result-2 c =
+invariant_of-result-2 c =
     let k = stands_none 0 1 (0 ∷ []) refl refl in
     (refl, ((λ j. omega (arith, loaded_low 0 (0 ∷ []) j)), (k.led, (k.led, (k.left, (k.rest, (k.hand, tt)))))))
 

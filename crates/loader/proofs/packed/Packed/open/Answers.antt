@@ -5,17 +5,17 @@ use Rattle.loader.proofs.Lawfulness.{found_begun}
 use Rattle.loader.proofs.Steps.{led_none, stands_none}
 use Rattle.loader.proofs.packed.Packed.open.Goals as goal
 
-pub invariant-of-self : goal.invariant-of-self
-invariant-of-self c =
-    let size = (found_begun c.args.loader.now.octets.now _ (held_field c.in-ok-field.field) c.in-ok-field.ensures).lawful.sized in
+pub invariant_of-self : goal.invariant_of-self
+invariant_of-self c =
+    let size = (found_begun c.args.loader.now.octets.now _ (held_field c.in_ok-field.field) c.in_ok-field.ensures).lawful.sized in
     ((size.wide, size.width_limit, size.high, size.height_limit, size.cells_limit), tt)
 
-pub invariant-of-self-2 : goal.invariant-of-self-2
-invariant-of-self-2 c =
-    let f = c.in-ok-field.field in
+pub invariant_of-self-2 : goal.invariant_of-self-2
+invariant_of-self-2 c =
+    let f = c.in_ok-field.field in
     let V = f.packing.v in
     let s = f.string.now in
-    let law = found_begun c.args.loader.now.octets.now _ (held_field f) c.in-ok-field.ensures in
+    let law = found_begun c.args.loader.now.octets.now _ (held_field f) c.in_ok-field.ensures in
     let begins = led_none V s law.begins in
     let k = stands_none V (f.frame.ni * f.frame.nj) s begins law.lawful.cells in
     (law.lawful.cells, ((λ j. omega (arith, loaded_low V s j)), (begins, (k.led, (k.left, (k.rest, (k.hand, tt)))))))
