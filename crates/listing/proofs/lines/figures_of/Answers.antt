@@ -6,7 +6,7 @@ use Rattle.listing.proofs.lines.figures_of.Goals as goal
 pub returns : goal.returns
 returns c =
     let field = c.args.field.now in
-    let least = shortest (held_field field) _ _ c.requires c.canonical-length.ensures.length c.unwrap-or.ensures in
+    let least = shortest (held_field field) _ _ c.requires c.canonical_length.ensures.length c.unwrap_or.ensures in
     λ i. record {
       number = c.args.number;
       width = field.frame.ni;

@@ -26,7 +26,7 @@ reach b unit scale z fits low is narrow t e =
 pub overflow_cast-least-in-loop-bound : goal.overflow_cast-least-in-loop-bound
 overflow_cast-least-in-loop-bound c =
     let low = rw c.in-Some.is at c.requires.scaled in
-    let high = small _ _ c.in-Some.field-0.scale low c.pow-unit.ensures (c.type-inv.bounds c.loop-bound.bound-index).fits in
+    let high = small _ _ c.in-Some.field-0.scale low c.pow-unit.ensures (c.type_inv.bounds c.loop-bound.bound-index).fits in
     record { sfits = omega arith }
 
 pub loop-bound-preserved : goal.loop-bound-preserved
@@ -38,7 +38,7 @@ loop-bound-preserved c =
     let fits : SFits w32 f.number = search rules in
     let z = to_z w32 (of_z w32 f.number) in
     let v : Value = record { number = z; scale = f.scale } in
-    let test = reach (get_or bounds i 0) c.pow-unit.result f.scale z (rw (to_z-of_z w32 f.number fits) fits) low c.pow-unit.ensures (c.type-inv.bounds i).fits in
+    let test = reach (get_or bounds i 0) c.pow-unit.result f.scale z (rw (to_z-of_z w32 f.number fits) fits) low c.pow-unit.ensures (c.type_inv.bounds i).fits in
     elim c.if-number-least.branch [
       | then-number-least w ↦ omega (arith, w.lamp-is, c.loop-bound.invariant, count_by_more_yes (reaches v) bounds i 0 (omega arith) (test true w.if-number-least.true))
       | else-number-least w ↦ omega (arith, w.lamp-is, c.loop-bound.invariant, count_by_more_no (reaches v) bounds i 0 (omega arith) (test false w.if-number-least.false))

@@ -21,8 +21,8 @@ low p (suc m) h = go (slice_get (values p.table) m)
     go None = tt
     go (Some r) = h
 
-pub lamp-of-requires : goal.lamp-of-requires
-lamp-of-requires c = record {
+pub lamp_of-requires : goal.lamp_of-requires
+lamp_of-requires c = record {
   few = c.requires.few;
   scaled = subst Low (sym c.value.ensures) (low (held_packing c.args.packing) c.loop-level.level c.requires.scaled);
 }

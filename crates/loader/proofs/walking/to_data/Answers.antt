@@ -17,4 +17,4 @@ pub returns : goal.returns
 returns c =
     let on = past_packing c.args.grid c.args.rest.now c.args.product.now _ _ c.requires c.hop.ensures.section c.hop.ensures.after in
     on ∙ (at_bitmap c.args.grid c.hop.result.1.now c.args.product.now (packing_of c.hop.result.0.now) (omega (arith, c.requires, ap length on))).on
-    ∙ ap₂ (λ a b. coming (last.Bitmap c.args.grid c.args.product.now a) b) (sym c.packing-of.ensures) (sym c.hop-2.ensures.after)
+    ∙ ap₂ (λ a b. coming (last.Bitmap c.args.grid c.args.product.now a) b) (sym c.packing_of.ensures) (sym c.hop-2.ensures.after)

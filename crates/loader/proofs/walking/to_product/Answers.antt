@@ -17,4 +17,4 @@ hop-requires c = (opens (last.Data c.args.grid) c.args.rest.now c.requires).fits
 pub returns : goal.returns
 returns c =
     (at_frame c.args.grid c.args.rest.now c.requires c.if-rest-ne3.false).on
-    ∙ ap₂ (λ g b. coming (last.Frame g) b) (ap grid_of (sym c.hop.ensures.section) ∙ sym c.grid-of.ensures) (sym c.hop.ensures.after)
+    ∙ ap₂ (λ g b. coming (last.Frame g) b) (ap grid_of (sym c.hop.ensures.section) ∙ sym c.grid_of.ensures) (sym c.hop.ensures.after)

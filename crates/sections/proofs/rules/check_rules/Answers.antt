@@ -20,7 +20,7 @@ pub returns-then-not-keeps : goal.returns-then-not-keeps
 returns-then-not-keeps c =
     let here = on c.args.rules.now c.args.section.now c.loop-rule.rule-index c.loop-rule-test.true in
     let fails = c.loop-rule.invariant ∙ here ∙ cond-false _ _ _ (sym c.keeps.ensures ∙ c.if-not-keeps.true) in
-    let octet = c.saturating-sub.ensures ∙ ap (λ n. n - 1) c.octet.ensures in
+    let octet = c.saturating_sub.ensures ∙ ap (λ n. n - 1) c.octet.ensures in
     let layer = layer.Section c.args.number in
     record {
       first = (λ i. Err (told (c.fault.ensures i) layer (c.args.start.place + octet i) c.args.start.fields 0)) ∙ sym (ap (λ v. judged layer c.args.start.place c.args.start.fields v tt) fails);

@@ -14,7 +14,7 @@ returns g c =
     let column = ap (λ x. q % x) wide in
     let count : c.size-size.result.width * c.size-size.result.height ≡ p.width * p.height = cc in
     let first = c.run-first in
-    let second = c.run-in-row-second in
+    let second = c.run_in_row-second in
     let under : RowRun s (q / p.width) (q % p.width) c.min-most.result second.result.level second.result.length = subst (λ (x : ℕ). RowRun s (q / x) (q % x) c.min-most.result second.result.level second.result.length) wide second.ensures.answer in
     let answer = run_overlaid self.rule p s q first.result.level first.result.length c.min-most.result second.result.level second.result.length (g.A.Chart.lawful self.first).sized.0 (omega arith) first.ensures.answer (omega arith) under in
     record {

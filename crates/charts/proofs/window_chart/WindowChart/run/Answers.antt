@@ -8,7 +8,7 @@ pub returns : goal.returns
 returns g c =
     let self = c.args.self.now in
     let p : Picture = g.C.Chart.picture self.below in
-    let run = c.run-in-row in
+    let run = c.run_in_row in
     record {
       answer = run_windowed self.size.width self.size.height self.column self.row p c.args.cell run.result.level run.result.length (omega arith) (omega arith) run.ensures.answer;
       same = ap (windowed self.size.width self.size.height self.column self.row) run.ensures.same;

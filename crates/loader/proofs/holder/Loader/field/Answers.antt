@@ -13,4 +13,4 @@ pub loop-preserved : goal.loop-preserved
 loop-preserved c = stepped (held_fields c.args.self.now) _ _ c.loop.counter _ c.loop.invariant c.next.ensures.steps
 
 pub returns : goal.returns
-returns c = ap held_answer c.ok-or.ensures.value ∙ answered (held_fields c.args.self.now) _ _ c.args.k _ (c.loop.invariant ∙ ap (λ n. drop n (held_fields c.args.self.now)) {y = c.args.k} (omega arith)) c.next-2.ensures.steps
+returns c = ap held_answer c.ok_or.ensures.value ∙ answered (held_fields c.args.self.now) _ _ c.args.k _ (c.loop.invariant ∙ ap (λ n. drop n (held_fields c.args.self.now)) {y = c.args.k} (omega arith)) c.next-2.ensures.steps

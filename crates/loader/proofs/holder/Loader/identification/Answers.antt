@@ -7,8 +7,8 @@ use Rattle.loader.proofs.holder.Loader.identification.Goals as goal
 pub returns-then-count-eq0 : goal.returns-then-count-eq0
 returns-then-count-eq0 c = ap (option_map (λ m. m.identification)) (sym (none_loaded _ (sym c.count.ensures ∙ c.if-count-eq0.true)))
 
-pub slice_bounds-identification-of-end : goal.slice_bounds-identification-of-end
-slice_bounds-identification-of-end c =
+pub slice_bounds-identification_of-end : goal.slice_bounds-identification_of-end
+slice_bounds-identification_of-end c =
     let some : 0 < length (held_fields c.args.self.now) = omega (arith, c.if-count-eq0.false, c.count.ensures) in
     omega (arith, (some_loaded c.args.self.now.octets.now some).starts.long)
 
@@ -16,4 +16,4 @@ pub returns : goal.returns
 returns c =
     let some : 0 < length (held_fields c.args.self.now) = omega (arith, c.if-count-eq0.false, c.count.ensures) in
     let h = some_loaded c.args.self.now.octets.now some in
-    ap Some (c.identification-of.ensures ∙ sym h.starts.says) ∙ ap (option_map (λ m. m.identification)) (sym h.is)
+    ap Some (c.identification_of.ensures ∙ sym h.starts.says) ∙ ap (option_map (λ m. m.identification)) (sym h.is)

@@ -3,8 +3,8 @@ use Rattle.messages.specs.Order.{held_field}
 use Rattle.loader.proofs.Lawfulness.{found-lawful}
 use Rattle.loader.proofs.holder.Loader.lamp_map.Goals as goal
 
-pub lamps-of-requires : goal.lamps-of-requires
-lamps-of-requires c = record {
+pub lamps_of-requires : goal.lamps_of-requires
+lamps_of-requires c = record {
   few = omega arith;
   scaled = (found-lawful c.args.self.now.octets.now _ (held_field c.in_ok-field.field) c.in_ok-field.ensures).scaled;
 }

@@ -6,7 +6,7 @@ use Rattle.loader.proofs.holder.Loader.load.Goals as goal
 
 pub returns-in_err-total : goal.returns-in_err-total
 returns-in_err-total c =
-    let p = err_from_is_err_and c.from-residual.result c.from-residual.ensures.1 in
+    let p = err_from_is_err_and c.from_residual.result c.from_residual.ensures.1 in
     record { loads = rw (p.1, p.2) (refused c.args.octets.now _ c.in_err-total.ensures.counts, refl); laws = message_laws }
 
 pub invariant_of-self : goal.invariant_of-self

@@ -14,7 +14,7 @@ bounds-self-self c = place_inside (stands c.args.self.now) c.requires
 
 pub invariant_of-self : goal.invariant_of-self
 invariant_of-self c =
-    let r = c.read-run-run in
+    let r = c.read_run-run in
     let self = c.args.self.now in
     let k = stands_more (stands self) c.requires 4_294_967_296 r.result.cells r.result.next (omega arith) r.ensures.cells r.ensures.next in
     (self.full, (self.octets, (self.begins, (k.led, (k.left, (k.rest, (k.hand, tt)))))))

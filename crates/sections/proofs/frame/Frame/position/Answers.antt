@@ -30,11 +30,11 @@ returns-then-column-self c =
 pub returns : goal.returns
 returns c =
     let f = c.args.self.now in
-    let fits : SFits w32 c.latitude-of.result = search rules in
+    let fits : SFits w32 c.latitude_of.result = search rules in
     let level : le_z f.la2 f.la1 ≡ true = grind (arith, ints, c.if-self.false) in
     let inside : covers f c.args.column c.args.row ≡ true =
     rw (lt-ltb c.args.column f.ni c.if-column-self.false, lt-ltb c.args.row f.nj c.if-row-self.false, le-leb f.lo1 f.lo2 c.if-self-2.false, level) refl in
     record {
-      position = (λ i. Some (record { latitude = (to_z-of_z w32 c.latitude-of.result fits ∙ c.latitude-of.ensures) i; longitude = c.longitude-of.ensures i })) ∙ sym (cond-true _ _ _ inside);
+      position = (λ i. Some (record { latitude = (to_z-of_z w32 c.latitude_of.result fits ∙ c.latitude_of.ensures) i; longitude = c.longitude_of.ensures i })) ∙ sym (cond-true _ _ _ inside);
       rounds = halves_up;
     }
