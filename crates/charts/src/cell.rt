@@ -52,7 +52,7 @@ impl Cell for MarkedCell {
 
 /// The cells from the first on that have its level, as far as they go.
 pub fn stretch<C: Cell>(cells: &[C]) -> Run
-    ensures { Stretch (map tells cells.now) result.level result.length }
+    ensures { Stretch (map C.tells cells.now) result.level result.length }
 {
     if cells.len() == 0 {
         return Run {

@@ -10,9 +10,9 @@ use format::fault::{ChartFault, Fault};
 /// another number of them, and then it stays as it is.
 pub fn write_levels<C: Chart>(chart: &mut C, buffer: &mut [u8]) -> Result<(), Fault>
     ensures levels { MatchResult result
-        (λ _. buffer.new ≡ (picture chart.old).levels)
-        (λ e. (length buffer.old ≢ length (picture chart.old).levels) × (refusal e ≡ told 14 layer.Charts 0 0 0) × (buffer.new ≡ buffer.old)) }
-    ensures same { picture chart.new ≡ picture chart.old }
+        (λ _. buffer.new ≡ (C.picture chart.old).levels)
+        (λ e. (length buffer.old ≢ length (C.picture chart.old).levels) × (refusal e ≡ told 14 layer.Charts 0 0 0) × (buffer.new ≡ buffer.old)) }
+    ensures same { C.picture chart.new ≡ C.picture chart.old }
 {
     let cells = (*chart).size().cells();
     if buffer.len() != cells {

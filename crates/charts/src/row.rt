@@ -7,8 +7,8 @@ use crate::chart::{Chart, Run};
 /// The run at a row and a column of a chart, whose cells go on beyond its sides with level 0: within that row, and of
 /// `most` cells at most.
 pub(crate) fn run_in_row<C: Chart>(chart: &mut C, row: usize, column: usize, most: usize) -> Run
-    ensures answer { RowRun (picture chart.old) row column most result.level result.length }
-    ensures same { picture chart.new ≡ picture chart.old }
+    ensures answer { RowRun (C.picture chart.old) row column most result.level result.length }
+    ensures same { C.picture chart.new ≡ C.picture chart.old }
 {
     let size = (*chart).size();
     if row >= size.height || column >= size.width {
