@@ -3,7 +3,7 @@ use Rattle.loader.proofs.Starting.{none_coming}
 use Rattle.loader.proofs.loading.no_fields.Goals as goal
 
 pub invariant_of-result : goal.invariant_of-result
-invariant_of-result c = (sym (ap length (none_coming _)), tt)
+invariant_of-result c = record { known = sym (ap length (none_coming _)) }
 
 pub returns : goal.returns
 returns c = none_coming _

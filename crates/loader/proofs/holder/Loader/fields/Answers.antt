@@ -8,7 +8,7 @@ returns-then-left-eq0 c = c.no_fields.ensures ∙ sym (no_length _ (sym c.count-
 pub invariant_of-result : goal.invariant_of-result
 invariant_of-result c =
     let known = c.count-left.ensures in
-    (known ∙ ap length (fields_from c.args.self.now.octets.now _ _ (omega (arith, c.if-left-eq0.false)) c.from_place-rest.ensures), tt)
+    record { known = known ∙ ap length (fields_from c.args.self.now.octets.now _ _ (omega (arith, c.if-left-eq0.false)) c.from_place-rest.ensures) }
 
 pub returns : goal.returns
 returns c =

@@ -10,7 +10,7 @@ returns-in_err-total c =
     record { loads = rw (p.1, p.2) (refused c.args.octets.now _ c.in_err-total.ensures.counts, refl); laws = message_laws }
 
 pub invariant_of-self : goal.invariant_of-self
-invariant_of-self c = ((loads c.args.octets.now _ c.in_ok-total.ensures.counts).0, tt)
+invariant_of-self c = record { known = (loads c.args.octets.now _ c.in_ok-total.ensures.counts).0 }
 
 pub returns : goal.returns
 returns c = record { loads = (loads c.args.octets.now _ c.in_ok-total.ensures.counts).1; laws = message_laws }

@@ -8,7 +8,7 @@ pub invariant_of-result-2 : goal.invariant_of-result-2
 unfolding leading_digits runs
 invariant_of-result-2 c =
     let k = stands_none 0 1 (0 ∷ []) refl refl in
-    (refl, ((λ j. omega (arith, loaded_low 0 (0 ∷ []) j)), (k.led, (k.led, (k.left, (k.rest, (k.hand, tt)))))))
+    record { full = refl; octets = λ j. omega (arith, loaded_low 0 (0 ∷ []) j); begins = k.led; led = k.led; left = k.left; rest = k.rest; hand = k.hand }
 
 pub returns : goal.returns
 unfolding leading_digits runs

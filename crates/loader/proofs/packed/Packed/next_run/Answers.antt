@@ -17,4 +17,4 @@ invariant_of-self c =
     let r = c.read_run-run in
     let self = c.args.self.now in
     let k = stands_more (stands self) c.requires 4_294_967_296 r.result.cells r.result.next (omega arith) r.ensures.cells r.ensures.next in
-    (self.full, (self.octets, (self.begins, (k.led, (k.left, (k.rest, (k.hand, tt)))))))
+    record { full = self.full; octets = self.octets; begins = self.begins; led = k.led; left = k.left; rest = k.rest; hand = k.hand }

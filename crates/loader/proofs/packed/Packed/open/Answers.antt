@@ -8,7 +8,7 @@ use Rattle.loader.proofs.packed.Packed.open.Goals as goal
 pub invariant_of-self : goal.invariant_of-self
 invariant_of-self c =
     let size = (found_begun c.args.loader.now.octets.now _ (held_field c.in_ok-field.field) c.in_ok-field.ensures).lawful.sized in
-    ((size.wide, size.width_limit, size.high, size.height_limit, size.cells_limit), tt)
+    record { sized = (size.wide, size.width_limit, size.high, size.height_limit, size.cells_limit) }
 
 pub invariant_of-self-2 : goal.invariant_of-self-2
 invariant_of-self-2 c =
@@ -18,4 +18,4 @@ invariant_of-self-2 c =
     let law = found_begun c.args.loader.now.octets.now _ (held_field f) c.in_ok-field.ensures in
     let begins = led_none V s law.begins in
     let k = stands_none V (f.frame.ni * f.frame.nj) s begins law.lawful.cells in
-    (law.lawful.cells, ((λ j. omega (arith, loaded_low V s j)), (begins, (k.led, (k.left, (k.rest, (k.hand, tt)))))))
+    record { full = law.lawful.cells; octets = λ j. omega (arith, loaded_low V s j); begins = begins; led = k.led; left = k.left; rest = k.rest; hand = k.hand }
