@@ -55,7 +55,7 @@ fn figures_of(number: usize, field: &Field<&[u8]>) -> Figures
 fn write_fields<W: fmt::Write>(f: &mut fmt::Formatter<W>, fields: Fields) -> fmt::Result
     requires lawful { All LawfulField (ahead fields) }
     requires few { length (ahead fields) < 2 ^ 64 }
-    ensures { WritesOnOk write_str_gives f.old result (fields_lines 0 (ahead fields.entry)) f.new }
+    ensures { WritesOnOk W.write_str_gives f.old result (fields_lines 0 (ahead fields.entry)) f.new }
 {
     let mut number = 0;
     for field in fields {

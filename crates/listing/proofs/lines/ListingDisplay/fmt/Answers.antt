@@ -16,7 +16,7 @@ write_fields-requires g c = record {
 
 pub returns-clause-writes : goal.returns-clause-writes
 returns-clause-writes g c = λ p ok.
-    let x = c.in_ok-write.ensures.shows p refl in
+    let x = c.in_ok-write.ensures.writes p refl in
     let y = c.write_fields.ensures x.plain ok in
     let self = c.args.self.now in
     let text : top_lines self.octets c.count-fields.result ++ fields_lines 0 (ahead c.fields.result) ≡ text_of self =
