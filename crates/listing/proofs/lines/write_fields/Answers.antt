@@ -6,7 +6,7 @@ use Rattle.listing.proofs.Printing.{Printing, begin, more, done}
 use Rattle.listing.proofs.lines.write_fields.Goals as goal
 
 pub loop-field-init : goal.loop-field-init
-loop-field-init g c = subst (λ w. Printing g.W.Write.write_str_gives c.args.f.now (ahead c.args.fields) 0 (ahead w) c.args.f.now) (sym c.into_iter-field-iterator.ensures) (begin g.W.Write.write_str_gives c.args.f.now (ahead c.args.fields) c.requires.lawful)
+loop-field-init g c = subst (λ w. Printing g.W.Write.write_str_gives c.args.f.now (ahead c.args.fields) 0 (ahead w) c.args.f.now) (sym c.into_iter-field-iterator.ensures.into_iter_gives) (begin g.W.Write.write_str_gives c.args.f.now (ahead c.args.fields) c.requires.lawful)
 
 pub figures_of-figures-requires : goal.figures_of-figures-requires
 figures_of-figures-requires g c = (subst (All LawfulField) c.in-Some.ensures.steps c.loop-field.invariant.lawful).0
