@@ -1,6 +1,6 @@
 -- Each kind of chart has a lawful picture, if those below have. These proofs stand here since a member of an impl may cite
 -- no other.
-use Rattle.std.specs.Prelude.{◌≡◌, ℕ, zero, suc, ◌+◌, ◌-◌, ◌*◌, ◌/◌, ◌%◌, ◌<◌, ◌≤◌, Bool, true, false, cond, List, [], ◌∷◌, ◌++◌, map, length, replicate, ◌==◌, nat_lt, slice_index, slice_index_or, refl}
+use Rattle.std.specs.Prelude.{◌≡◌, ℕ, zero, suc, ◌+◌, ◌-◌, ◌*◌, ◌/◌, ◌%◌, ◌≤◌, Bool, true, false, cond, List, [], ◌∷◌, ◌++◌, map, length, replicate, ◌==◌, nat_lt, slice_index, slice_index_or, refl}
 use Rattle.std.proofs.Common.{◌∙◌, arith}
 use Rattle.std.specs.List.{range_with_len}
 use Rattle.std.proofs.lemmas.List.{length-append, length-replicate, length-map}
@@ -10,7 +10,7 @@ use Rattle.charts.specs.declared.cells.Cells.{Cells}
 use Rattle.charts.specs.declared.overlay.Rule.{Rule}
 use Rattle.charts.specs.declared.overlay.Rule.TheVariants.{Higher, Fill}
 use Rattle.charts.specs.Pictures.{Picture, Lawful, level_at, drawn}
-use Rattle.charts.specs.Cells.{octet_level, marked_level, padded, cells_picture}
+use Rattle.charts.specs.Cells.{octet_level, marked_level, cells_picture}
 use Rattle.charts.specs.Recodings.{recoded}
 use Rattle.charts.specs.Windows.{windowed}
 use Rattle.charts.specs.Overlays.{merged, overlaid}

@@ -1,9 +1,8 @@
 -- A message that loads: it has a field, and its fields come after section 1.
-use Rattle.std.proofs.Common.{◌≡◌, ℕ, suc, ◌+◌, ◌-◌, ◌<◌, ◌≤◌, Bool, true, false, cond, eqb, List, [], ◌∷◌, ◌++◌, length, get_or, take, drop, Some, None, Ok, Err, Option, sym, refl, ap, ◌∙◌, subst, arith, length-append, length-drop, length-take, drop-drop}
+use Rattle.std.proofs.Common.{◌≡◌, ℕ, ◌+◌, ◌-◌, ◌<◌, ◌≤◌, Bool, true, false, cond, eqb, List, [], ◌∷◌, length, get_or, take, drop, Some, None, Ok, Err, Option, sym, refl, ap, ◌∙◌, subst, arith, length-append, length-drop, length-take, drop-drop}
 use Rattle.std.proofs.lemmas.Bool.{leb-true}
 use Rattle.format.specs.Numbers.{number}
 use Rattle.format.specs.declared.fault.Refusal.{Refusal}
-use Rattle.sections.specs.Rules.{judge, checks_for}
 use Rattle.sections.specs.Sections.{identification_of}
 use Rattle.sections.proofs.Firsts.{all_pass}
 use Rattle.messages.specs.declared.field.Grid.{Grid}
@@ -11,14 +10,14 @@ use Rattle.messages.specs.declared.order.Last.{Last}
 use Rattle.messages.specs.declared.order.Last.TheVariants as last
 use Rattle.messages.specs.declared.order.Due.{Due}
 use Rattle.messages.specs.declared.order.Due.TheVariants as due
-use Rattle.messages.specs.Messages.{Message, Means, Reads, Outcome, Fields, Ended, head_checks, stated, mark, rules_of, leaves, finishes, message_of}
+use Rattle.messages.specs.Messages.{Message, Means, Reads, Outcome, Fields, Ended, head_checks, stated, mark, leaves, finishes, message_of}
 use Rattle.messages.specs.Messages.Reads.{whole, trailing, short, disorder, overlong, flawed, faulty, sound}
 use Rattle.messages.specs.Messages.Means.{headless, headed}
 use Rattle.messages.specs.Meaning.{meaning, counted, message_in, fields_in, loaded_as, coming}
 use Rattle.messages.proofs.Agreeing.{some_outcome}
 use Rattle.messages.proofs.Lengths.{identification_length, frame_length}
 use Rattle.loader.specs.Held.{LoadsAs}
-use Rattle.loader.proofs.Coming.{FieldList, Comes, Known, opens, again, at_identification, at_first, comes_is, shift}
+use Rattle.loader.proofs.Coming.{FieldList, Comes, opens, again, at_identification, at_first, comes_is, shift}
 
 -- a field is begun and not finished, unless section 7 was read last
 abbrev begun : Last (List ℕ) → ℕ

@@ -1,5 +1,5 @@
 -- A step of the code is a rule of the reading.
-use Rattle.std.proofs.Common.{◌≡◌, ℕ, ◌+◌, ◌-◌, ◌<◌, ◌≤◌, Bool, true, false, cond, ltb, List, [], ◌∷◌, ◌++◌, length, get_or, take, drop, Some, None, Ok, Err, Option, Result, sym, refl, ap, ◌∙◌, subst, arith, length-append, length-drop, length-take}
+use Rattle.std.proofs.Common.{◌≡◌, ℕ, ◌+◌, ◌-◌, ◌<◌, ◌≤◌, Bool, true, false, cond, ltb, List, [], ◌++◌, length, get_or, take, drop, Some, None, Ok, Err, Option, Result, sym, refl, ap, ◌∙◌, subst, arith, length-append, length-drop, length-take}
 use mathlib.Core.Path.{subst₃}
 use Rattle.std.proofs.lemmas.Bool.{ltb-true, ltb-false, leb-true}
 use Rattle.format.specs.declared.fault.Layer.TheVariants as layer
@@ -12,7 +12,7 @@ use Rattle.messages.specs.declared.order.Last.{Last}
 use Rattle.messages.specs.declared.order.Last.TheVariants as last
 use Rattle.messages.specs.declared.order.Due.{Due}
 use Rattle.messages.specs.Order.{follows}
-use Rattle.messages.specs.Messages.{Means, Reads, Outcome, Fields, Ended, head_checks, stated, number_of, rules_of, string_fault, leaves, finishes, of_message, message_of}
+use Rattle.messages.specs.Messages.{Means, Reads, Fields, Ended, head_checks, stated, number_of, rules_of, string_fault, leaves, finishes, of_message, message_of}
 use Rattle.messages.specs.Messages.Reads.{whole, trailing, short, disorder, overlong, flawed, faulty, sound}
 use Rattle.messages.specs.Messages.Means.{headless, headed}
 use Rattle.messages.specs.Meaning.{Next, then, advance, chosen, taken}

@@ -2,7 +2,6 @@
 use Rattle.std.specs.Prelude.{◌≡◌, ℕ, ◌*◌, ◌<◌, ◌≤◌, true, List, length, Ok}
 use Rattle.std.specs.List.{AllByRecursion as All}
 use Rattle.runs.specs.Runs.{loaded}
-use Rattle.sections.specs.declared.frame.Frame.{Frame}
 use Rattle.sections.specs.Positions.{covers}
 use Rattle.sections.specs.Values.{values}
 use Rattle.messages.specs.declared.field.Field.{Field}

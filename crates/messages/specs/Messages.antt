@@ -1,5 +1,5 @@
 -- What the octets of a message mean, by rules: one for each case.
-use Rattle.std.specs.Prelude.{◌≡◌, ℕ, ◌+◌, ◌-◌, ◌<◌, ◌≤◌, Bool, List, [], ◌∷◌, ◌++◌, length, take, drop, Some, None, Ok, Err, Option, Result, nat_eq, nat_le, slice_index}
+use Rattle.std.specs.Prelude.{◌≡◌, ℕ, ◌+◌, ◌-◌, ◌<◌, ◌≤◌, List, [], ◌∷◌, ◌++◌, length, take, drop, Some, None, Ok, Err, Option, Result, nat_eq, nat_le, slice_index}
 use Rattle.format.specs.Numbers.{number, field}
 use Rattle.format.specs.Refusals.{told}
 use Rattle.format.specs.declared.fault.Layer.TheVariants as layer

@@ -3,7 +3,7 @@ use Rattle.std.proofs.Common.{◌≡◌, ℕ, zero, suc, ◌+◌, ◌-◌, ◌<�
 use lib.ListN.{length-replicate, replicate-append-replicate}
 use Rattle.std.proofs.lemmas.List.{drop_all}
 use Rattle.runs.specs.Runs.{base, leading_digits, runs, digits_value, measured, cells_of, loaded, highest}
-use Rattle.runs.specs.Canonical.{prepend, longest_runs, digits, runs_octets, canonical}
+use Rattle.runs.specs.Canonical.{prepend, longest_runs, digits, runs_octets}
 use Rattle.runs.proofs.Strings.{runs_level, runs_digit}
 use Rattle.runs.proofs.Levels.{highest_run}
 use Rattle.runs.proofs.LongestRuns.{longest_replicate, prepend_apart}

@@ -1,5 +1,5 @@
 -- The Gregorian calendar.
-use Rattle.std.specs.Prelude.{ℕ, ◌%◌, Bool, true, cond, not, ◌&&◌, ◌||◌, ◌==◌}
+use Rattle.std.specs.Prelude.{ℕ, ◌%◌, Bool, cond, not, ◌&&◌, ◌||◌, ◌==◌}
 
 -- a leap year: every fourth, but of the hundredth years only every fourth of those
 abbrev pub leap : ℕ → Bool

@@ -1,7 +1,7 @@
 -- Equal cells: laws, so that no long list is built.
-use Rattle.std.proofs.Common.{◌≡◌, ℕ, suc, max, List, [], ◌∷◌, replicate, ℤ, pos, ◌-ℤ◌, nat_abs, sym, refl, ap, ◌∙◌, append-nil, arith}
+use Rattle.std.proofs.Common.{◌≡◌, ℕ, suc, List, [], ◌∷◌, replicate, ℤ, pos, ◌-ℤ◌, nat_abs, sym, ap, ◌∙◌, append-nil, arith}
 use Rattle.runs.specs.Runs.{highest}
-use Rattle.runs.specs.Canonical.{prepend, longest_runs, runs_octets, canonical}
+use Rattle.runs.specs.Canonical.{prepend, longest_runs, runs_octets}
 use Rattle.runs.proofs.LongestRuns.{longest_replicate}
 use Rattle.runs.proofs.Levels.{highest_run}
 use Rattle.sections.specs.declared.frame.Frame.{Frame}

@@ -1,4 +1,4 @@
-use Rattle.std.proofs.Common.{refl, ◌∙◌, lit<, lit≤}
+use Rattle.std.proofs.Common.{refl, lit<, lit≤}
 use Rattle.runs.specs.Runs.{leading_digits, runs}
 use Rattle.runs.specs.Canonical.{prepend, digits_by}
 use Rattle.runs.specs.StringFaults.{fault_from}

@@ -1,4 +1,4 @@
-use Rattle.std.proofs.Common.{◌≡◌, ℕ, sym, ◌∙◌, arith, below_more}
+use Rattle.std.proofs.Common.{◌≡◌, sym, ◌∙◌, arith, below_more}
 use Rattle.charts.proofs.Told.{told, none_stretched, stretched}
 use Rattle.charts.proofs.cell.stretch.Goals as goal
 

@@ -1,4 +1,4 @@
-use Rattle.std.proofs.Common.{◌≡◌, ◌-◌, ◌≤◌, length, take}
+use Rattle.std.proofs.Common.{◌≡◌, ◌-◌, ◌≤◌, take}
 use Rattle.charts.proofs.levels.write_levels.Given as goal
 
 abbrev pub invariant-loop-cell : goal.invariant-loop-cell

@@ -1,4 +1,4 @@
-use Rattle.std.proofs.Common.{◌≡◌, ℕ, ◌+◌, ◌*◌, ◌<◌, subst, arith}
+use Rattle.std.proofs.Common.{ℕ, ◌+◌, ◌*◌, ◌<◌, subst, arith}
 use Rattle.charts.specs.Pictures.{Picture, RunAt}
 use Rattle.charts.proofs.Rows.{row_zero, row_part}
 use Rattle.charts.proofs.row.run_in_row.Goals as goal

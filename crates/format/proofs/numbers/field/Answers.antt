@@ -1,4 +1,4 @@
-use Rattle.std.proofs.Common.{◌≡◌, ℕ, ◌+◌, ◌-◌, ◌^◌, ◌<◌, min, List, length, take, drop, sym, ap, ◌∙◌, subst, arith, length-take}
+use Rattle.std.proofs.Common.{◌≡◌, ℕ, ◌+◌, ◌-◌, ◌^◌, ◌<◌, min, List, length, take, drop, ap, ◌∙◌, subst, arith, length-take}
 use Rattle.format.specs.Numbers.{number}
 use Rattle.format.proofs.Parts.{part, part_bound}
 use Rattle.format.proofs.numbers.field.Goals as goal

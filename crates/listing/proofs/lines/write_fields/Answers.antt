@@ -1,4 +1,4 @@
-use Rattle.std.proofs.Common.{◌≡◌, length, Ok, sym, refl, ap, subst, arith}
+use Rattle.std.proofs.Common.{length, Ok, sym, refl, ap, subst, arith}
 use Rattle.std.specs.List.{AllByRecursion as All}
 use Rattle.messages.specs.Lawful.{LawfulField}
 use Rattle.loader.specs.Held.{ahead}

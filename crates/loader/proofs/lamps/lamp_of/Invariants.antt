@@ -1,4 +1,4 @@
-use Rattle.std.proofs.Common.{◌≡◌, suc, ◌^◌, take, count_by}
+use Rattle.std.proofs.Common.{◌≡◌, suc, take, count_by}
 use Rattle.loader.specs.Lamps.{reaches}
 use Rattle.loader.proofs.lamps.lamp_of.Given as goal
 

@@ -1,4 +1,4 @@
-use Rattle.std.proofs.Common.{◌≡◌, sym, ap, ◌∙◌, ap₂}
+use Rattle.std.proofs.Common.{sym, ap, ◌∙◌, ap₂}
 use Rattle.sections.specs.Sections.{content}
 use Rattle.messages.specs.declared.order.Last.TheVariants as last
 use Rattle.messages.specs.Meaning.{coming}

@@ -1,4 +1,4 @@
-use Rattle.std.proofs.Common.{◌≡◌, length, sym, ap, ◌∙◌, ap₂, arith}
+use Rattle.std.proofs.Common.{sym, ap, ◌∙◌, ap₂, arith}
 use Rattle.messages.specs.declared.order.Last.TheVariants as last
 use Rattle.messages.specs.Messages.{grid_of}
 use Rattle.messages.specs.Meaning.{coming}

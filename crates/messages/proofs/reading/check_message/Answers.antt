@@ -1,9 +1,9 @@
-use Rattle.std.proofs.Common.{◌≡◌, ◌+◌, length, sym, ap, ◌∙◌, arith}
+use Rattle.std.proofs.Common.{◌+◌, sym, ap, ◌∙◌, arith}
 use Rattle.std.proofs.lemmas.Slice.{between_to_end}
 use Rattle.std.proofs.lemmas.Bool.{both_ways}
 use Rattle.std.proofs.lemmas.Result.{err_from_is_err_and}
 use Rattle.messages.proofs.Composed.{message_laws}
-use Rattle.messages.proofs.Counting.{Counting, start, head_refuses, trails, ends, fails, shorter, goes, made_of, one_made, some_made, none_made}
+use Rattle.messages.proofs.Counting.{start, head_refuses, trails, ends, fails, shorter, goes, one_made, some_made, none_made}
 use Rattle.messages.proofs.reading.check_message.Goals as goal
 use Rattle.messages.proofs.reading.check_message.Goals.{then-is_some, else-is_some}
 

@@ -1,11 +1,11 @@
-use Rattle.std.proofs.Common.{◌≡◌, ℕ, ◌+◌, ◌-◌, ◌<◌, List, ◌∷◌, length, get_or, drop, Err, sym, refl, ap, ◌∙◌, arith}
+use Rattle.std.proofs.Common.{◌≡◌, ℕ, ◌+◌, ◌-◌, ◌<◌, List, ◌∷◌, length, get_or, drop, Err, sym, ap, ◌∙◌}
 use Rattle.std.proofs.lemmas.List.{at_drop_more, at_drop_all}
 use Rattle.std.proofs.lemmas.Bool.{cond-true, cond-false}
 use Rattle.format.specs.declared.fault.Layer.TheVariants as layer
 use Rattle.format.specs.Refusals.{told}
 use Rattle.sections.specs.declared.rules.Rule.{Rule}
 use Rattle.sections.specs.declared.rules.Rule.TheVariants as rule
-use Rattle.sections.specs.Rules.{judge, judged, checks_for, check_of}
+use Rattle.sections.specs.Rules.{judge, judged, checks_for}
 use Rattle.sections.proofs.Firsts.{first_decides}
 use Rattle.sections.proofs.rules.check_rules.Goals as goal
 

@@ -1,4 +1,4 @@
-use Rattle.std.proofs.Common.{◌≡◌, ◌*◌, map, length, ap, ◌∙◌, arith, rules}
+use Rattle.std.proofs.Common.{◌≡◌, ◌*◌, length, arith, rules}
 use Rattle.charts.proofs.Told.{pictured_full}
 use Rattle.charts.proofs.cells.Cells.open.Goals as goal
 

@@ -1,4 +1,4 @@
-use Rattle.std.proofs.Common.{◌≡◌, length, drop, sym, ap, ◌∙◌, arith}
+use Rattle.std.proofs.Common.{drop, ap, ◌∙◌, arith}
 use Rattle.loader.specs.Held.{held_fields, held_answer}
 use Rattle.loader.proofs.Paces.{stepped, answered, past}
 use Rattle.loader.proofs.holder.Loader.field.Goals as goal

@@ -1,4 +1,4 @@
-use Rattle.std.proofs.Common.{◌≡◌, length, sym, ap, ◌∙◌, arith}
+use Rattle.std.proofs.Common.{length, sym, ap, ◌∙◌, arith}
 use Rattle.loader.proofs.Starting.{fields_from, no_length}
 use Rattle.loader.proofs.holder.Loader.fields.Goals as goal
 

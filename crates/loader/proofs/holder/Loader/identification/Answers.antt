@@ -1,7 +1,7 @@
-use Rattle.std.proofs.Common.{◌≡◌, ◌<◌, length, Some, sym, ap, ◌∙◌, arith}
+use Rattle.std.proofs.Common.{◌<◌, length, Some, sym, ap, ◌∙◌, arith}
 use Rattle.std.specs.Option.{option_map}
 use Rattle.loader.specs.Held.{held_fields}
-use Rattle.loader.proofs.Starting.{SomeLoaded, none_loaded, some_loaded}
+use Rattle.loader.proofs.Starting.{none_loaded, some_loaded}
 use Rattle.loader.proofs.holder.Loader.identification.Goals as goal
 
 pub returns-then-count-eq0 : goal.returns-then-count-eq0

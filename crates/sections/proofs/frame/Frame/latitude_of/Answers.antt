@@ -1,5 +1,5 @@
-use Rattle.std.proofs.Common.{◌≡◌, pos, ◌-ℤ◌, nat_abs, ap, ◌∙◌, arith, w32, w64, SFits, rules}
-use Rattle.std.proofs.lemmas.Int.{to_z-of_z, ints}
+use Rattle.std.proofs.Common.{◌≡◌, pos, ◌-ℤ◌, nat_abs, ap, ◌∙◌, w32, w64, SFits, rules}
+use Rattle.std.proofs.lemmas.Int.{to_z-of_z}
 use Rattle.sections.specs.Positions.{along}
 use Rattle.sections.proofs.frame.Frame.latitude_of.Goals as goal
 

@@ -1,9 +1,8 @@
-use Rattle.std.proofs.Common.{◌≡◌, ℕ, ◌<◌, ◌≤◌, Bool, true, false, cond, ◌&&◌, ltb, leb, ℤ, ◌≤ℤ◌, ◌<ℤ◌, Some, None, sym, refl, ap, ◌∙◌, arith, w32, SFits, rules}
+use Rattle.std.proofs.Common.{◌≡◌, Bool, true, false, ◌&&◌, ltb, leb, Some, sym, refl, ap, ◌∙◌, arith, w32, SFits, rules}
 use lib.Signed.{le_z}
 use Rattle.std.proofs.lemmas.Int.{to_z-of_z, ints}
 use Rattle.std.proofs.lemmas.Bool.{cond-true, cond-false, le-leb, lt-leb, lt-ltb, le-ltb}
-use Rattle.sections.specs.declared.frame.Frame.{Frame}
-use Rattle.sections.specs.Positions.{covers, position_of, latitude_of, longitude_of}
+use Rattle.sections.specs.Positions.{covers}
 use Rattle.sections.proofs.Nearest.{halves_up}
 use Rattle.sections.proofs.frame.Frame.position.Goals as goal
 use Rattle.sections.proofs.frame.Frame.position.Goals.{then-column-self-via-then-column-self, then-column-self-via-else-column-self+then-row-self, then-column-self-via-else-column-self+else-row-self+then-self, then-column-self-via-else-column-self+else-row-self+else-self+then-self-2}

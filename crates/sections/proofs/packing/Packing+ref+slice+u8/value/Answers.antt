@@ -1,10 +1,7 @@
-use Rattle.std.proofs.Common.{◌≡◌, ℕ, zero, suc, ◌+◌, ◌-◌, ◌*◌, ◌<◌, ◌≤◌, length, take, drop, Some, None, sym, refl, ap, ◌∙◌, arith, w32, SFits, rules}
-use Rattle.std.specs.Option.{option_map}
-use Rattle.std.proofs.lemmas.Int.{to_z-of_z, ints}
+use Rattle.std.proofs.Common.{◌-◌, ◌*◌, Some, ap, ◌∙◌, arith, w32, SFits, rules}
+use Rattle.std.proofs.lemmas.Int.{to_z-of_z}
 use Rattle.format.specs.Numbers.{field, signed}
-use Rattle.sections.specs.declared.packing.Packing.{Packing}
 use Rattle.sections.specs.Sections.{held_packing}
-use Rattle.sections.specs.Values.{value_of}
 use Rattle.sections.proofs.Entries.{value_none, value_some}
 use Rattle.sections.proofs.packing.Packing+ref+slice+u8.value.Goals as goal
 use Rattle.sections.proofs.packing.Packing+ref+slice+u8.value.Goals.{then-level-eq0-via-then-level-eq0, then-level-eq0-via-else-level-eq0+then-last-self}
