@@ -3,7 +3,7 @@ use Rattle.std.proofs.Common.{◌≡◌, ℕ, ◌+◌, true, List, [], ◌++◌,
 use Rattle.std.specs.Fmt.{IsPlainFormatter, HasWritten, WritesOnOk}
 use Rattle.std.specs.declared.fmt.Error.{Error}
 use Rattle.std.specs.declared.fmt.Formatter.{Formatter}
-use Rattle.std.specs.List.{AllByRecursion as All}
+use Rattle.std.specs.List.{AllByRecursion}
 use Rattle.messages.specs.declared.field.Field.{Field}
 use Rattle.messages.specs.Lawful.{LawfulField}
 use Rattle.messages.specs.Order.{held_field}
@@ -21,17 +21,17 @@ module _ {W : Type 0} (took : W → List ℕ → W → Type 0) (f₀ : Formatter
 
   pub record Printing (k : ℕ) (left : List (Field (List ℕ))) (f : Formatter W) : Type 0 where
     pub count : k + length left ≡ length all
-    pub lawful : All LawfulField left
+    pub lawful : AllByRecursion LawfulField left
     pub text : IsPlainFormatter f₀ → Text k left f
 
-  pub begin : All LawfulField all → Printing 0 all f₀
+  pub begin : AllByRecursion LawfulField all → Printing 0 all f₀
   begin lawful = record { count = omega arith; lawful = lawful; text = λ p. record { text = []; put = record { wrote = wrote_none took _; plain = p }; whole = refl } }
 
   pub more : (k : ℕ) (left after : List (Field (List ℕ))) (x : Field (Bor (List ℕ))) (y : Figures) (f g : Formatter W) (r : Result (Unit {0}) Error)
       → Printing k left f → Stepped left (Some x) after → y ≡ figures_of k (held_field x) → WritesOnOk took f r (figures_lines y) g → is_ok r ≡ true → Printing (k + 1) after g
   more k left after x y f g r h is figures prints ok = record {
     count = omega (arith, h.count, ap length is);
-    lawful = (subst (All LawfulField) is h.lawful).1;
+    lawful = (subst (AllByRecursion LawfulField) is h.lawful).1;
     text = λ p.
         let t = h.text p in
         let line = figures_lines y in

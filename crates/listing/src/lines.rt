@@ -1,7 +1,7 @@
 //! What a listing writes.
 ghost use Rattle.std.specs.Prelude.{◌≡◌, ◌^◌, ◌<◌, length, Some};
 ghost use Rattle.std.specs.Fmt.{WritesOnOk};
-ghost use Rattle.std.specs.List.{AllByRecursion as All};
+ghost use Rattle.std.specs.List.{AllByRecursion};
 ghost use Rattle.messages.specs.Lawful.{LawfulField};
 ghost use Rattle.messages.specs.Order.{held_field};
 ghost use Rattle.loader.specs.Held.{ahead};
@@ -53,7 +53,7 @@ fn figures_of(number: usize, field: &Field<&[u8]>) -> Figures
 
 /// Writes the lines of each field that is still to come.
 fn write_fields<W: fmt::Write>(f: &mut fmt::Formatter<W>, fields: Fields) -> fmt::Result
-    requires lawful { All LawfulField (ahead fields) }
+    requires lawful { AllByRecursion LawfulField (ahead fields) }
     requires few { length (ahead fields) < 2 ^ 64 }
     ensures { WritesOnOk W.write_str_gives f.old result (fields_lines 0 (ahead fields.entry)) f.new }
 {

@@ -1,7 +1,7 @@
 -- Octets load as a message exactly if they are one.
 use Rattle.std.proofs.Common.{◌≡◌, ℕ, ◌+◌, ◌<◌, ◌≤◌, List, [], ◌∷◌, ◌++◌, length, get_or, take, drop, Some, None, Ok, Err, Option, sym, refl, ap, ◌∙◌, subst, subst₂, append_assoc, append-nil, arith}
 use mathlib.Core.Path.{subst₃}
-use Rattle.std.specs.List.{AllByRecursion as All}
+use Rattle.std.specs.List.{AllByRecursion}
 use Rattle.std.proofs.ByRecursion.{All-drop}
 use Rattle.std.proofs.lemmas.List.{length-append, length-drop, length-take-le, take_at, take-append-le, take-append-drop, drop_at, get_or_append_left}
 use Rattle.std.proofs.lemmas.Bool.{leb-true}
@@ -36,7 +36,7 @@ said r s rest one is =
     ∙ ap identification_of (take_at s rest 21 (identification_length s (none_fails (checks_for identification_rules) s one.keeps)))
 
 -- what loads is a message
-is_message : {s : List ℕ} {o : Outcome} → Means s o → All (λ o. o < 256) s → (m : Message) → o ≡ Ok m → IsMessage s m
+is_message : {s : List ℕ} {o : Outcome} → Means s o → AllByRecursion (λ o. o < 256) s → (m : Message) → o ≡ Ok m → IsMessage s m
 is_message (headless e) octets m q = let z : ◌≡◌ {A = ℕ} 0 1 = cc in absurd (omega arith)
 is_message {s} (headed {o = Err x} e on) octets m q = let z : ◌≡◌ {A = ℕ} 0 1 = cc in absurd (omega arith)
 is_message {s} (headed {o = Ok fs} e on) octets m q =

@@ -1,7 +1,7 @@
 -- What holds of the fields that the rules of reading give.
 use Rattle.std.proofs.Common.{◌≡◌, ℕ, ◌+◌, ◌*◌, ◌≤◌, Bool, true, false, cond, ◌&&◌, eqb, ltb, leb, List, [], ◌∷◌, length, drop, ℤ, IfOk, Some, None, Ok, Err, Option, sym, refl, ◌∙◌, subst, arith, length-drop}
 use lib.Signed.{le_z, lt_z}
-use Rattle.std.specs.List.{AllByRecursion as All}
+use Rattle.std.specs.List.{AllByRecursion}
 use Rattle.std.proofs.ByRecursion.{All-append}
 use Rattle.std.proofs.lemmas.Nat.{mul-le}
 use Rattle.std.proofs.lemmas.Int.{ints}
@@ -128,7 +128,7 @@ last_lawful (due.Packing g p) s e h = (h, packing_lawful g.points s e)
 last_lawful (due.Bitmap g p k) s e h = h
 last_lawful (due.Data g p k) s e h = h.0
 
-made_begun : (d : Due (List ℕ)) (s : List ℕ) → string_fault d s ≡ None → DueLawful d → All BegunField (finishes d s)
+made_begun : (d : Due (List ℕ)) (s : List ℕ) → string_fault d s ≡ None → DueLawful d → AllByRecursion BegunField (finishes d s)
 made_begun due.Identification s e h = tt
 made_begun due.Frame s e h = tt
 made_begun (due.Product g) s e h = tt
@@ -150,7 +150,7 @@ made_begun (due.Data g p k) s e (grid, packing) = (
 )
 
 reads_begun : {l : Last (List ℕ)} {p : ℕ} {fs : List (Field (List ℕ))} {r : List ℕ} {o : Fields} → Reads l p fs r o
-    → LastLawful l → All BegunField fs → IfOk o (All BegunField)
+    → LastLawful l → AllByRecursion BegunField fs → IfOk o (AllByRecursion BegunField)
 reads_begun (whole e n) h all = all
 reads_begun (trailing e n) h all = tt
 reads_begun (short e n) h all = tt
@@ -162,22 +162,22 @@ reads_begun {l} {fs = fs} (sound {d = d} live long next fits ok text on) h all =
     let due = due_lawful l _ d next h in
     reads_begun on (last_lawful d _ ok due) (All-append BegunField fs _ all (made_begun d _ text due))
 
-outcome_begun : {s : List ℕ} {o : Outcome} → Means s o → IfOk o (λ m. All BegunField m.fields)
+outcome_begun : {s : List ℕ} {o : Outcome} → Means s o → IfOk o (λ m. AllByRecursion BegunField m.fields)
 outcome_begun (headless e) = tt
 outcome_begun {s} (headed {o = o} e on) = go o (reads_begun on tt tt)
   where
-    go : (o : Fields) → IfOk o (All BegunField) → IfOk (message_of s o) (λ m. All BegunField m.fields)
+    go : (o : Fields) → IfOk o (AllByRecursion BegunField) → IfOk (message_of s o) (λ m. AllByRecursion BegunField m.fields)
     go (Ok fs) all = all
     go (Err e) all = tt
 
-pub means_begun : {s : List ℕ} {o : Outcome} → Means s o → (m : Message) → o ≡ Ok m → All BegunField m.fields
-means_begun h m e = subst (λ o. IfOk o (λ m. All BegunField m.fields)) e (outcome_begun h)
+pub means_begun : {s : List ℕ} {o : Outcome} → Means s o → (m : Message) → o ≡ Ok m → AllByRecursion BegunField m.fields
+means_begun h m e = subst (λ o. IfOk o (λ m. AllByRecursion BegunField m.fields)) e (outcome_begun h)
 
-pub begun_lawful : (fs : List (Field (List ℕ))) → All BegunField fs → All LawfulField fs
+pub begun_lawful : (fs : List (Field (List ℕ))) → AllByRecursion BegunField fs → AllByRecursion LawfulField fs
 begun_lawful [] h = tt
 begun_lawful (f ∷ fs) h = (h.0.lawful, begun_lawful fs h.1)
 
-pub means_lawful : {s : List ℕ} {o : Outcome} → Means s o → (m : Message) → o ≡ Ok m → All LawfulField m.fields
+pub means_lawful : {s : List ℕ} {o : Outcome} → Means s o → (m : Message) → o ≡ Ok m → AllByRecursion LawfulField m.fields
 means_lawful h m e = begun_lawful m.fields (means_begun h m e)
 
 pub lawful_fields : LawfulFields

@@ -1,6 +1,6 @@
 -- Octets that are read through are made of sections, by induction over the rules.
 use Rattle.std.proofs.Common.{◌≡◌, ℕ, ◌<◌, ◌≤◌, Bool, true, false, cond, eqb, leb, List, [], ◌∷◌, ◌++◌, length, get_or, take, drop, Some, None, Ok, Option, sym, refl, ap, ◌∙◌, subst, append_assoc, append-nil, arith}
-use Rattle.std.specs.List.{AllByRecursion as All}
+use Rattle.std.specs.List.{AllByRecursion}
 use Rattle.std.proofs.ByRecursion.{All-take, All-drop}
 use Rattle.std.proofs.lemmas.List.{length-take-le, take_all, take-take, take-append-drop, get_or-take}
 use Rattle.std.proofs.lemmas.Bool.{eqb-true, leb-true, and_parts}
@@ -73,7 +73,7 @@ After (last.Bitmap g p k) fs r = AfterBitmap g p k fs r
 After (last.Data g) fs r = AfterData g fs r
 
 -- a frame section's points
-pub points : (s : List ℕ) → All (λ c. c.passes s ≡ true) (checks_for frame_rules) → 0 < (grid_of s).points
+pub points : (s : List ℕ) → AllByRecursion (λ c. c.passes s ≡ true) (checks_for frame_rules) → 0 < (grid_of s).points
 unfolding frame_rules
 points s h = leb-true 1 (field s 7 4) (and_parts (leb 1 (field s 7 4)) (leb (field s 7 4) 33554432) h.1.1.0).0
 
@@ -131,7 +131,7 @@ own_closed g fs r h =
     )
 
 -- a section read in front of the others
-module _ (s rest : List ℕ) (n : ℕ) (more : List (Field (List ℕ))) (long : 5 ≤ length s) (states : stated s ≡ length s) (here : get_or s 4 0 ≡ n) (octets : All (λ o. o < 256) s) where
+module _ (s rest : List ℕ) (n : ℕ) (more : List (Field (List ℕ))) (long : 5 ≤ length s) (states : stated s ≡ length s) (here : get_or s 4 0 ≡ n) (octets : AllByRecursion (λ o. o < 256) s) where
   led : (k : ℕ) (rules : List Rule) (next : List ℕ → List ℕ → Type 0) → eqb n k ≡ true → judge (checks_for rules) s ≡ None → next s rest → Led k rules next (s ++ rest)
   led k rules next e ok h = record {
     front = s;
@@ -192,7 +192,7 @@ pub record Taken (l : Last (List ℕ)) (r : List ℕ) (fs gs : List (Field (List
   pub after : After l more r
 
 pub take_through : {l : Last (List ℕ)} {p : ℕ} {fs : List (Field (List ℕ))} {r : List ℕ} {o : Fields} → Reads l p fs r o
-    → All (λ o. o < 256) r → (gs : List (Field (List ℕ))) → o ≡ Ok gs → Taken l r fs gs
+    → AllByRecursion (λ o. o < 256) r → (gs : List (Field (List ℕ))) → o ≡ Ok gs → Taken l r fs gs
 take_through {l} {fs = fs} {r = r} (whole e n) octets gs q =
     let z : fs ≡ gs = cc in
     record { more = []; is = sym z ∙ sym (append-nil fs); after = at_end l r e n }

@@ -1,6 +1,6 @@
 -- A loadable message in the subject's words: which sections it is made of, and what they mean.
 use Rattle.std.specs.Prelude.{◌≡◌, ℕ, ◌<◌, ◌≤◌, true, List, [], ◌∷◌, ◌++◌, length, take, Some, None, Ok, Option, slice_index_or}
-use Rattle.std.specs.List.{AllByRecursion as All}
+use Rattle.std.specs.List.{AllByRecursion}
 use Rattle.runs.specs.StringFaults as string
 use Rattle.sections.specs.declared.rules.Rule.{Rule}
 use Rattle.sections.specs.Rules.{checks_for}
@@ -14,7 +14,7 @@ pub record IsSection (number : ℕ) (rules : List Rule) (s : List ℕ) : Type 0 
   pub long : 5 ≤ length s
   pub states : stated s ≡ length s
   pub numbered : slice_index_or s 4 0 ≡ number
-  pub keeps : All (λ c. c.passes s ≡ true) (checks_for rules)
+  pub keeps : AllByRecursion (λ c. c.passes s ≡ true) (checks_for rules)
 
 -- the octets of a field under a frame: sections 4, 5, 6 and 7, whose string loads as the frame's points; and what they mean
 pub record IsField (g : Grid) (s : List ℕ) (f : Field (List ℕ)) : Type 0 where
@@ -45,7 +45,7 @@ pub record IsMessage (s : List ℕ) (m : Message) : Type 0 where
   pub identification : List ℕ
   pub fields : List ℕ
   pub octets : s ≡ take 16 s ++ (identification ++ (fields ++ mark))
-  pub zero : All (λ c. c.passes s ≡ true) head_checks
+  pub zero : AllByRecursion (λ c. c.passes s ≡ true) head_checks
   pub one : IsSection 1 identification_rules identification
   pub are : AreFields None fields m.fields
   pub some : 0 < length m.fields
@@ -53,4 +53,4 @@ pub record IsMessage (s : List ℕ) (m : Message) : Type 0 where
 
 -- octets load as a message exactly if they are one
 abbrev pub Composition : Type 0
-Composition = (s : List ℕ) (m : Message) → All (λ o. o < 256) s → (Means s (Ok m) → IsMessage s m) × (IsMessage s m → Means s (Ok m))
+Composition = (s : List ℕ) (m : Message) → AllByRecursion (λ o. o < 256) s → (Means s (Ok m) → IsMessage s m) × (IsMessage s m → Means s (Ok m))

@@ -1,6 +1,6 @@
 -- What a message says.
 use Rattle.std.specs.Prelude.{◌≡◌, ℕ, ◌<◌, List, map, ℤ, Ok}
-use Rattle.std.specs.List.{AllByRecursion as All}
+use Rattle.std.specs.List.{AllByRecursion}
 use Rattle.sections.specs.declared.frame.Frame.{Frame}
 use Rattle.sections.specs.declared.identification.Identification.{Identification}
 use Rattle.sections.specs.Values as table
@@ -41,4 +41,4 @@ pub record IsMessageOf (s : List ℕ) (c : Content) : Type 0 where
 
 -- octets load with a content exactly if they are a message of that content
 abbrev pub ContentLaw : Type 0
-ContentLaw = (s : List ℕ) (c : Content) → All (λ o. o < 256) s → (LoadsWith s c → IsMessageOf s c) × (IsMessageOf s c → LoadsWith s c)
+ContentLaw = (s : List ℕ) (c : Content) → AllByRecursion (λ o. o < 256) s → (LoadsWith s c → IsMessageOf s c) × (IsMessageOf s c → LoadsWith s c)

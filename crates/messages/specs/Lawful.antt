@@ -1,6 +1,6 @@
 -- What holds of each field of a message that loads.
 use Rattle.std.specs.Prelude.{◌≡◌, ℕ, ◌*◌, ◌<◌, ◌≤◌, true, List, length, Ok}
-use Rattle.std.specs.List.{AllByRecursion as All}
+use Rattle.std.specs.List.{AllByRecursion}
 use Rattle.runs.specs.Runs.{loaded}
 use Rattle.sections.specs.Positions.{covers}
 use Rattle.sections.specs.Values.{values}
@@ -29,4 +29,4 @@ pub record LawfulField (f : Field (List ℕ)) : Type 0 where
   pub scaled : f.packing.scale ≤ 6
 
 abbrev pub LawfulFields : Type 0
-LawfulFields = (s : List ℕ) (m : Message) → Means s (Ok m) → All LawfulField m.fields
+LawfulFields = (s : List ℕ) (m : Message) → Means s (Ok m) → AllByRecursion LawfulField m.fields

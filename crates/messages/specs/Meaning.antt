@@ -1,6 +1,6 @@
 -- The outcome of a message as a function of its octets, step by step: the rules give the same outcome, and no other.
 use Rattle.std.specs.Prelude.{ℕ, zero, suc, ◌+◌, ◌-◌, Bool, false, cond, List, [], ◌++◌, length, take, drop, Some, None, Ok, Err, Option, Result, ◌==◌, nat_lt, slice_index}
-use Rattle.std.specs.Str.{bytes_eq as same_text}
+use Rattle.std.specs.Str.{bytes_eq}
 use Rattle.format.specs.declared.fault.Layer.TheVariants as layer
 use Rattle.format.specs.declared.fault.Refusal.{Refusal}
 use Rattle.runs.specs.StringFaults as string
@@ -55,7 +55,7 @@ ended (last.Frame g) r = false
 ended (last.Product g p) r = false
 ended (last.Packing g p k) r = false
 ended (last.Bitmap g p k) r = false
-ended (last.Data g) r = same_text (take 4 r) mark
+ended (last.Data g) r = bytes_eq (take 4 r) mark
 
 abbrev pub onward : (Next → Fields) → Result Next Refusal → Fields
 onward f (Ok n) = f n

@@ -1,7 +1,7 @@
 -- Digits of a base.
 use Rattle.std.proofs.Common.{◌≡◌, ℕ, zero, suc, ◌+◌, ◌*◌, ◌/◌, ◌%◌, ◌^◌, ◌<◌, ◌≤◌, List, [], ◌∷◌, length, sym, refl, ap, ◌∙◌, mod-lt, mul_comm, div-lt_iff_lt-mul, mul-le-mul_left, pow-suc, mul-zero, mul-one, mul-suc, arith}
 use native.Mathlib.Nat.{div-lt_self, mod-add-div, pow-zero, pow-succ'}
-use Rattle.std.specs.List.{AllByRecursion as All}
+use Rattle.std.specs.List.{AllByRecursion}
 use Rattle.std.proofs.lemmas.Nat.{div-mul-add, mod-mul-add}
 use Rattle.runs.specs.Runs.{digits_value}
 use Rattle.runs.specs.Canonical.{digits_by, digits, Tight}
@@ -14,13 +14,13 @@ value_digits_by L (suc f) (suc n) two h =
     ap (λ x. suc n % L + L * x) (value_digits_by L f (suc n / L) two (omega (arith, div-lt_self {n = suc n} {k = L} (omega arith) (omega arith))))
     ∙ mod-add-div (suc n) L
 
-pub under_digits_by : (L f n : ℕ) → 0 < L → All (λ d. d < L) (digits_by L f n)
+pub under_digits_by : (L f n : ℕ) → 0 < L → AllByRecursion (λ d. d < L) (digits_by L f n)
 unfolding digits_by
 under_digits_by L zero n h = tt
 under_digits_by L (suc f) zero h = tt
 under_digits_by L (suc f) (suc n) h = (mod-lt (suc n) h, under_digits_by L f (suc n / L) h)
 
-pub value_lt : (L : ℕ) (ds : List ℕ) → All (λ d. d < L) ds → digits_value L ds < L ^ length ds
+pub value_lt : (L : ℕ) (ds : List ℕ) → AllByRecursion (λ d. d < L) ds → digits_value L ds < L ^ length ds
 value_lt L [] h = rw pow-zero (omega arith)
 value_lt L (d ∷ ds) h =
     omega (arith, h.0, pow-succ' L (length ds), mul-suc L (digits_value L ds), mul-le-mul_left L (value_lt L ds h.1))
@@ -63,7 +63,7 @@ same_digit L a b m n ha hb e =
       sym (div-mul-add m L a ha) ∙ ap (λ x. x / L) turned ∙ div-mul-add n L b hb,
     )
 
-pub tight_same : (L : ℕ) (ds es : List ℕ) → 0 < L → All (λ d. d < L) ds → All (λ d. d < L) es → Tight ds → Tight es → digits_value L ds ≡ digits_value L es → ds ≡ es
+pub tight_same : (L : ℕ) (ds es : List ℕ) → 0 < L → AllByRecursion (λ d. d < L) ds → AllByRecursion (λ d. d < L) es → Tight ds → Tight es → digits_value L ds ≡ digits_value L es → ds ≡ es
 tight_same L [] [] pos a b t u e = refl
 tight_same L [] (y ∷ es) pos a b t u e = absurd (omega (arith, tight_some L y es pos u))
 tight_same L (x ∷ ds) [] pos a b t u e = absurd (omega (arith, tight_some L x ds pos t))
@@ -73,7 +73,7 @@ tight_same L (x ∷ ds) (y ∷ es) pos a b t u e =
     λ i. both.0 i ∷ ih i
 
 -- the digits of what tight digits mean are those digits
-pub digits_value_lem : (L : ℕ) (ds : List ℕ) → 2 ≤ L → All (λ d. d < L) ds → Tight ds → digits L (digits_value L ds) ≡ ds
+pub digits_value_lem : (L : ℕ) (ds : List ℕ) → 2 ≤ L → AllByRecursion (λ d. d < L) ds → Tight ds → digits L (digits_value L ds) ≡ ds
 digits_value_lem L ds two u t =
     let n : ℕ = digits_value L ds in
     let le : n ≤ n = omega arith in

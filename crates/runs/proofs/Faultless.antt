@@ -1,7 +1,7 @@
 -- A string has no fault exactly if it is loadable.
 use Rattle.std.proofs.Common.{◌≡◌, ℕ, suc, ◌+◌, ◌<◌, ◌≤◌, List, [], ◌∷◌, map, length, replicate, Some, None, sym, refl, ap, ◌∙◌, ⊎_elim, arith, length-append}
 use lib.ListN.{length-replicate}
-use Rattle.std.specs.List.{AllByRecursion as All}
+use Rattle.std.specs.List.{AllByRecursion}
 use Rattle.std.proofs.lemmas.Bool.{cases_lt, lt-ltb, le-ltb, cond-true, cond-false}
 use Rattle.runs.specs.Runs.{base, runs, digits_value, measured, cells_of, loaded, Begins, highest}
 use Rattle.runs.specs.Canonical.{canonical}
@@ -88,7 +88,7 @@ faultless_begins V n (o ∷ s) some e =
     (λ (k : o ≤ V). k)
     (cases_lt V o)
 
-loads : (V n : ℕ) (s : List ℕ) → 0 < n → All (λ o. o < 256) s → fault V n s ≡ None → Loads V n s
+loads : (V n : ℕ) (s : List ℕ) → 0 < n → AllByRecursion (λ o. o < 256) s → fault V n s ≡ None → Loads V n s
 loads V n s some a e = record {
   loadable = record { octets = a; begins = faultless_begins V n s some e; gives = refl };
   count = faultless_length V n s e;

@@ -2,7 +2,7 @@
 use Rattle.std.proofs.Common.{◌≡◌, ℕ, zero, suc, ◌+◌, ◌<◌, ◌≤◌, max, List, [], ◌∷◌, ◌++◌, map, length, replicate, sym, refl, ap, ◌∙◌, subst, ⊎_elim, append_assoc, arith}
 use native.Mathlib.Nat.{le-max_left}
 use lib.ListN.{replicate-append-replicate}
-use Rattle.std.specs.List.{AllByRecursion as All}
+use Rattle.std.specs.List.{AllByRecursion}
 use Rattle.std.proofs.ByRecursion.{All-weaker}
 use Rattle.std.proofs.lemmas.Bool.{eq-eqb, ne_eqb, cond-true, cond-false, cases_eq}
 use Rattle.runs.specs.Runs.{cells_of, highest}
@@ -74,7 +74,7 @@ longest_cells (r ∷ q ∷ rs) a =
     ∙ ap (prepend r.0 r.1) (longest_cells (q ∷ rs) a.1)
     ∙ prepend_other r.0 r.1 q rs a.0
 
-levels_prepend : (P : ℕ → Type 0) (v n : ℕ) (rs : List (ℕ × ℕ)) → P v → All (λ r. P r.0) rs → All (λ r. P r.0) (prepend v n rs)
+levels_prepend : (P : ℕ → Type 0) (v n : ℕ) (rs : List (ℕ × ℕ)) → P v → AllByRecursion (λ r. P r.0) rs → AllByRecursion (λ r. P r.0) (prepend v n rs)
 unfolding prepend
 levels_prepend P v n [] p a = (p, tt)
 levels_prepend P v n (r ∷ rs) p a =
@@ -83,16 +83,16 @@ levels_prepend P v n (r ∷ rs) p a =
     (λ e. rw (prepend_other v n r rs e) (p, a))
     (cases_eq v r.0)
 
-pub levels_longest : (P : ℕ → Type 0) (cells : List ℕ) → All P cells → All (λ r. P r.0) (longest_runs cells)
+pub levels_longest : (P : ℕ → Type 0) (cells : List ℕ) → AllByRecursion P cells → AllByRecursion (λ r. P r.0) (longest_runs cells)
 levels_longest P [] a = tt
 levels_longest P (c ∷ cs) a = levels_prepend P c 0 (longest_runs cs) a.0 (levels_longest P cs a.1)
 
-pub below_highest : (cells : List ℕ) → All (λ c. c ≤ highest cells) cells
+pub below_highest : (cells : List ℕ) → AllByRecursion (λ c. c ≤ highest cells) cells
 below_highest [] = tt
 below_highest (c ∷ cs) =
     (le-max_left c (highest cs), All-weaker (λ x. x ≤ highest cs) (λ x. x ≤ max c (highest cs)) (λ x h. omega arith) cs (below_highest cs))
 
-pub highest_least : (k : ℕ) (cells : List ℕ) → All (λ c. c ≤ k) cells → highest cells ≤ k
+pub highest_least : (k : ℕ) (cells : List ℕ) → AllByRecursion (λ c. c ≤ k) cells → highest cells ≤ k
 highest_least k [] a = omega arith
 highest_least k (c ∷ cs) a = omega (arith, a.0, highest_least k cs a.1)
 

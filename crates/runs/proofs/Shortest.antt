@@ -2,7 +2,7 @@
 use Rattle.std.proofs.Common.{◌≡◌, ℕ, suc, ◌+◌, ◌^◌, ◌<◌, ◌≤◌, List, [], ◌∷◌, map, length, refl, ap, ◌∙◌, subst, ⊎_elim, mul-le-mul_left, pow-suc, arith, length-append}
 use native.Mathlib.Nat.{pow-le-pow_left, pow-le-pow_right}
 use lib.ListN.{length-map}
-use Rattle.std.specs.List.{AllByRecursion as All}
+use Rattle.std.specs.List.{AllByRecursion}
 use Rattle.std.proofs.lemmas.Bool.{cases_eq, cases_lt}
 use Rattle.runs.specs.Runs.{base, leading_digits, runs, digits_value, measured, cells_of}
 use Rattle.runs.specs.Canonical.{prepend, longest_runs, digits, runs_octets}
@@ -51,12 +51,12 @@ cost_longest L (r ∷ rs) two =
     (omega (arith, cost-prepend L r.0 r.1 (longest_runs (cells_of rs)) two, cost_longest L rs two))
 
 -- digits of a smaller base are no fewer
-fewer : (L L' : ℕ) (ds : List ℕ) → 2 ≤ L → L' ≤ L → All (λ d. d < L') ds → length (digits L (digits_value L' ds)) ≤ length ds
+fewer : (L L' : ℕ) (ds : List ℕ) → 2 ≤ L → L' ≤ L → AllByRecursion (λ d. d < L') ds → length (digits L (digits_value L' ds)) ≤ length ds
 fewer L L' ds two le u =
     let n : ℕ = digits_value L' ds in
     length-digits_by L (length ds) n n two (omega (arith, value_lt L' ds u, pow-le-pow_left le (length ds)))
 
-pub spent : (L V : ℕ) (s : List ℕ) → 2 ≤ L → base V ≤ L → All (λ o. o < 256) s → length (leading_digits V s) + cost L (map (measured V) (runs V s)) ≤ length s
+pub spent : (L V : ℕ) (s : List ℕ) → 2 ≤ L → base V ≤ L → AllByRecursion (λ o. o < 256) s → length (leading_digits V s) + cost L (map (measured V) (runs V s)) ≤ length s
 unfolding leading_digits runs
 spent L V [] two le h = omega arith
 spent L V (o ∷ s) two le h =

@@ -1,7 +1,7 @@
 -- Strings, their runs and the octets of runs.
 use Rattle.std.proofs.Common.{◌≡◌, ℕ, suc, ◌+◌, ◌-◌, ◌<◌, ◌≤◌, List, [], ◌∷◌, ◌++◌, map, sym, refl, ap, ◌∙◌, ⊎_elim, append-nil, add-sub_of_le, arith}
 use native.Mathlib.Nat.{add-sub_cancel_left}
-use Rattle.std.specs.List.{AllByRecursion as All}
+use Rattle.std.specs.List.{AllByRecursion}
 use Rattle.std.proofs.ByRecursion.{All-append, All-map, All-weaker}
 use Rattle.std.proofs.lemmas.Bool.{le-leb, lt-leb, cond-true, cond-false, cases_lt}
 use Rattle.runs.specs.Runs.{base, leading_digits, runs, measured}
@@ -41,12 +41,12 @@ runs_digits V (d ∷ ds) s = runs_digit V (octet V d) (map (octet V) ds ++ s) (o
 abbrev pub with_digits : ℕ → ℕ × ℕ → ℕ × List ℕ
 with_digits V r = (r.0, digits (base V) r.1)
 
-pub leading_octets : (V : ℕ) (rs : List (ℕ × ℕ)) → All (λ r. r.0 ≤ V) rs → leading_digits V (runs_octets V rs) ≡ []
+pub leading_octets : (V : ℕ) (rs : List (ℕ × ℕ)) → AllByRecursion (λ r. r.0 ≤ V) rs → leading_digits V (runs_octets V rs) ≡ []
 unfolding leading_digits
 leading_octets V [] h = refl
 leading_octets V (r ∷ rs) h = leading_level V r.0 _ h.0
 
-pub runs_octets_lem : (V : ℕ) (rs : List (ℕ × ℕ)) → All (λ r. r.0 ≤ V) rs → runs V (runs_octets V rs) ≡ map (with_digits V) rs
+pub runs_octets_lem : (V : ℕ) (rs : List (ℕ × ℕ)) → AllByRecursion (λ r. r.0 ≤ V) rs → runs V (runs_octets V rs) ≡ map (with_digits V) rs
 unfolding runs
 runs_octets_lem V [] h = refl
 runs_octets_lem V (r ∷ rs) h =
@@ -59,17 +59,17 @@ measured-with_digits V [] h = refl
 measured-with_digits V (r ∷ rs) h =
     λ i. (r.0, value_digits_by (base V) r.1 r.1 (omega arith) (omega arith) i) ∷ measured-with_digits V rs h i
 
-pub small_octets : (V : ℕ) (rs : List (ℕ × ℕ)) → V ≤ 252 → All (λ r. r.0 ≤ V) rs → All (λ o. o < 256) (runs_octets V rs)
+pub small_octets : (V : ℕ) (rs : List (ℕ × ℕ)) → V ≤ 252 → AllByRecursion (λ r. r.0 ≤ V) rs → AllByRecursion (λ o. o < 256) (runs_octets V rs)
 small_octets V [] h l = tt
 small_octets V (r ∷ rs) h l =
-    let small : All (λ d. d < base V) (digits (base V) r.1) = under_digits_by (base V) r.1 r.1 (omega arith) in (
+    let small : AllByRecursion (λ d. d < base V) (digits (base V) r.1) = under_digits_by (base V) r.1 r.1 (omega arith) in (
       omega (arith, l.0),
       All-append (λ o. o < 256) _ _
           (All-map (λ o. o < 256) (octet V) _ (All-weaker (λ d. d < base V) (λ d. octet V d < 256) (λ d k. omega arith) _ small))
           (small_octets V rs h l.1),
     )
 
-pub under_leading : (V : ℕ) (s : List ℕ) → All (λ o. o < 256) s → All (λ d. d < base V) (leading_digits V s)
+pub under_leading : (V : ℕ) (s : List ℕ) → AllByRecursion (λ o. o < 256) s → AllByRecursion (λ d. d < base V) (leading_digits V s)
 unfolding leading_digits
 under_leading V [] h = tt
 under_leading V (o ∷ s) h =
@@ -79,7 +79,7 @@ under_leading V (o ∷ s) h =
     (cases_lt V o)
 
 -- a string whose runs are tight is its leading digits and its runs, with_digits
-pub whole : (V : ℕ) (s : List ℕ) → V ≤ 252 → All (λ o. o < 256) s → All (λ r. Tight r.1) (runs V s) → s ≡ map (octet V) (leading_digits V s) ++ runs_octets V (map (measured V) (runs V s))
+pub whole : (V : ℕ) (s : List ℕ) → V ≤ 252 → AllByRecursion (λ o. o < 256) s → AllByRecursion (λ r. Tight r.1) (runs V s) → s ≡ map (octet V) (leading_digits V s) ++ runs_octets V (map (measured V) (runs V s))
 unfolding leading_digits runs
 whole V [] v h t = refl
 whole V (o ∷ s) v h t =

@@ -1,6 +1,6 @@
 -- The canonical string loads, is canonical, is the only one, and none is shorter.
 use Rattle.std.proofs.Common.{◌≡◌, ℕ, ◌<◌, ◌≤◌, List, [], ◌∷◌, ◌++◌, map, length, sym, refl, ap, ◌∙◌, arith}
-use Rattle.std.specs.List.{AllByRecursion as All}
+use Rattle.std.specs.List.{AllByRecursion}
 use Rattle.std.proofs.ByRecursion.{All-weaker}
 use Rattle.runs.specs.Runs.{Begins, highest, base, leading_digits, runs, measured, cells_of}
 use Rattle.runs.specs.Canonical.{canonical, Packable, Storable, StringOf, Tight, level, longest_runs, runs_octets}
@@ -10,11 +10,11 @@ use Rattle.runs.proofs.Strings.{octet, with_digits, runs_octets_lem, leading_lev
 use Rattle.runs.proofs.LongestRuns.{cells_longest, apart_longest, longest_cells, levels_longest, below_highest, highest_least, some_longest}
 use Rattle.runs.proofs.Shortest.{cost, length_octets, cost_longest, spent}
 
-begins_octets : (V : ℕ) (rs : List (ℕ × ℕ)) → 0 < length rs → All (λ r. r.0 ≤ V) rs → Begins V (runs_octets V rs)
+begins_octets : (V : ℕ) (rs : List (ℕ × ℕ)) → 0 < length rs → AllByRecursion (λ r. r.0 ≤ V) rs → Begins V (runs_octets V rs)
 begins_octets V [] some a = absurd (omega arith)
 begins_octets V (r ∷ rs) some a = a.0
 
-levels : (cells : List ℕ) → All (λ r. r.0 ≤ highest cells) (longest_runs cells)
+levels : (cells : List ℕ) → AllByRecursion (λ r. r.0 ≤ highest cells) (longest_runs cells)
 levels cells = levels_longest (λ c. c ≤ highest cells) cells (below_highest cells)
 
 pub canonical_loads : CanonicalLoads
@@ -34,7 +34,7 @@ levels_with_digits : (V : ℕ) (rs : List (ℕ × ℕ)) → map level (map (with
 levels_with_digits V [] = refl
 levels_with_digits V (r ∷ rs) = ap (λ l. r.0 ∷ l) (levels_with_digits V rs)
 
-tight_with_digits : (V : ℕ) (rs : List (ℕ × ℕ)) → V ≤ 252 → All (λ r. Tight r.1) (map (with_digits V) rs)
+tight_with_digits : (V : ℕ) (rs : List (ℕ × ℕ)) → V ≤ 252 → AllByRecursion (λ r. Tight r.1) (map (with_digits V) rs)
 tight_with_digits V [] h = tt
 tight_with_digits V (r ∷ rs) h = (tight_digits_by (base V) r.1 r.1 (omega arith) (omega arith), tight_with_digits V rs h)
 

@@ -1,6 +1,6 @@
 -- The canonical string of cells.
 use Rattle.std.specs.Prelude.{◌≡◌, ℕ, zero, suc, ◌+◌, ◌/◌, ◌%◌, ◌<◌, ◌≤◌, cond, List, [], ◌∷◌, ◌++◌, map, length, ◌==◌, ◌≢◌}
-use Rattle.std.specs.List.{AllByRecursion as All}
+use Rattle.std.specs.List.{AllByRecursion}
 use Rattle.runs.specs.Runs.{base, runs, highest, Loadable}
 
 -- no level is that of the next
@@ -23,7 +23,7 @@ level r = r.0
 pub record IsCanonical (V : ℕ) (cells s : List ℕ) : Type 0 where
   pub reached : V ≡ highest cells
   pub apart : Apart (map level (runs V s))
-  pub tight : All (λ r. Tight r.1) (runs V s)
+  pub tight : AllByRecursion (λ r. Tight r.1) (runs V s)
 
 -- one more run in front: n cells past its first, joined to the next run if that has its level
 unfoldable pub prepend : ℕ → ℕ → List (ℕ × ℕ) → List (ℕ × ℕ)
@@ -59,7 +59,7 @@ canonical cells = runs_octets (highest cells) (longest_runs cells)
 -- cells that a packing can hold
 pub record Packable (cells : List ℕ) : Type 0 where
   pub some : 0 < length cells
-  pub low : All (λ c. c ≤ 252) cells
+  pub low : AllByRecursion (λ c. c ≤ 252) cells
 
 -- cells whose string is stored
 pub record Storable (cells : List ℕ) : Type 0 where

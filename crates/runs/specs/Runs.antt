@@ -1,7 +1,7 @@
 -- Run strings and the cells that they give. V is the highest level that a packing provides for: an octet up to V is
 -- a level, and one above V is a digit of value octet - (V + 1).
 use Rattle.std.specs.Prelude.{◌≡◌, ℕ, suc, ◌+◌, ◌-◌, ◌*◌, ◌<◌, ◌≤◌, max, cond, List, [], ◌∷◌, ◌++◌, map, replicate, nat_le}
-use Rattle.std.specs.List.{AllByRecursion as All}
+use Rattle.std.specs.List.{AllByRecursion}
 
 -- how many values a digit has
 abbrev pub base : ℕ → ℕ
@@ -42,7 +42,7 @@ Begins V (o ∷ s) = o ≤ V
 
 -- a string is loadable, as these cells
 pub record Loadable (V : ℕ) (cells s : List ℕ) : Type 0 where
-  pub octets : All (λ o. o < 256) s
+  pub octets : AllByRecursion (λ o. o < 256) s
   pub begins : Begins V s
   pub gives : loaded V s ≡ cells
 

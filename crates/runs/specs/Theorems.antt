@@ -1,13 +1,13 @@
 -- The laws of strings, for all strings and cells.
 use Rattle.std.specs.Prelude.{◌≡◌, ℕ, ◌<◌, ◌≤◌, List, length, None}
-use Rattle.std.specs.List.{AllByRecursion as All}
+use Rattle.std.specs.List.{AllByRecursion}
 use Rattle.runs.specs.Runs.{highest, Loadable}
 use Rattle.runs.specs.Canonical.{IsCanonical, canonical, Packable}
 use Rattle.runs.specs.StringFaults.{fault, Exactly}
 
 -- the check refuses exactly the strings that are not loadable
 abbrev pub FaultlessLoads : Type 0
-FaultlessLoads = (V n : ℕ) (s : List ℕ) → 0 < n → All (λ o. o < 256) s → Exactly V n s
+FaultlessLoads = (V n : ℕ) (s : List ℕ) → 0 < n → AllByRecursion (λ o. o < 256) s → Exactly V n s
 
 abbrev pub CanonicalLoads : Type 0
 CanonicalLoads = (cells : List ℕ) → Packable cells → Loadable (highest cells) cells (canonical cells)

@@ -1,6 +1,6 @@
 -- The verdict on a list of checks is that of the first that fails.
 use Rattle.std.proofs.Common.{◌≡◌, ℕ, Bool, true, false, cond, List, [], ◌∷◌, ◌++◌, Some, None, sym, refl, ap, ◌∙◌, arith}
-use Rattle.std.specs.List.{AllByRecursion as All}
+use Rattle.std.specs.List.{AllByRecursion}
 use Rattle.std.proofs.lemmas.Bool.{cond-true, cond-false}
 use Rattle.sections.specs.Rules.{Check, Flaw, judge, FirstFails, FirstDecides}
 
@@ -14,7 +14,7 @@ finds_first (c ∷ cs) s t e = go (λ h. finds_first cs s t h) (c.passes s) refl
         record { before = c ∷ f.before; here = f.here; after = f.after; split = ap (λ l. c ∷ l) f.split; passed = (p, f.passed); failed = f.failed; tells = f.tells }
     go ih false p h = record { before = []; here = c; after = cs; split = refl; passed = tt; failed = p; tells = cc }
 
-first_found : (before : List Check) (c : Check) (after : List Check) (s : List ℕ) → All (λ c. c.passes s ≡ true) before → c.passes s ≡ false → judge (before ++ (c ∷ after)) s ≡ Some c.tells
+first_found : (before : List Check) (c : Check) (after : List Check) (s : List ℕ) → AllByRecursion (λ c. c.passes s ≡ true) before → c.passes s ≡ false → judge (before ++ (c ∷ after)) s ≡ Some c.tells
 first_found [] c after s all fails = cond-false _ _ _ fails
 first_found (b ∷ before) c after s all fails = cond-true _ _ _ all.0 ∙ first_found before c after s all.1 fails
 
@@ -22,15 +22,15 @@ is_first : (cs : List Check) (s : List ℕ) (t : Flaw) → FirstFails cs s t →
 is_first cs s t f = ap (λ l. judge l s) f.split ∙ first_found f.before f.here f.after s f.passed f.failed ∙ ap Some (sym f.tells)
 
 -- where no check fails, each passes
-pub all_pass : (cs : List Check) (s : List ℕ) → judge cs s ≡ None → All (λ c. c.passes s ≡ true) cs
+pub all_pass : (cs : List Check) (s : List ℕ) → judge cs s ≡ None → AllByRecursion (λ c. c.passes s ≡ true) cs
 all_pass [] s e = tt
 all_pass (c ∷ cs) s e = go (λ h. all_pass cs s h) (c.passes s) refl e
   where
-    go : (judge cs s ≡ None → All (λ c. c.passes s ≡ true) cs) → (b : Bool) → c.passes s ≡ b → cond b (judge cs s) (Some c.tells) ≡ None → All (λ c. c.passes s ≡ true) (c ∷ cs)
+    go : (judge cs s ≡ None → AllByRecursion (λ c. c.passes s ≡ true) cs) → (b : Bool) → c.passes s ≡ b → cond b (judge cs s) (Some c.tells) ≡ None → AllByRecursion (λ c. c.passes s ≡ true) (c ∷ cs)
     go ih true p h = (p, ih h)
     go ih false p h = let z : ◌≡◌ {A = ℕ} 0 1 = cc in absurd (omega arith)
 
-pub none_fails : (cs : List Check) (s : List ℕ) → All (λ c. c.passes s ≡ true) cs → judge cs s ≡ None
+pub none_fails : (cs : List Check) (s : List ℕ) → AllByRecursion (λ c. c.passes s ≡ true) cs → judge cs s ≡ None
 none_fails [] s h = refl
 none_fails (c ∷ cs) s h = cond-true _ _ _ h.0 ∙ none_fails cs s h.1
 

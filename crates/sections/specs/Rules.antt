@@ -1,6 +1,6 @@
 -- A section's checks as a list in octet order, and the first that fails.
-use Rattle.std.specs.Prelude.{◌≡◌, ℕ, ◌+◌, ◌-◌, ◌*◌, Bool, true, false, cond, ◌&&◌, ◌||◌, leb, List, [], ◌∷◌, ◌++◌, map, length, ℤ, pos, negsuc, Some, None, Ok, Err, Option, Result, ◌==◌, int_lt, nat_eq, nat_le, nat_lt, unsigned_abs}
-use Rattle.std.specs.List.{AllByRecursion as All}
+use Rattle.std.specs.Prelude.{◌≡◌, ℕ, ◌+◌, ◌-◌, ◌*◌, Bool, true, false, cond, ◌&&◌, ◌||◌, List, [], ◌∷◌, ◌++◌, map, length, ℤ, pos, negsuc, Some, None, Ok, Err, Option, Result, ◌==◌, int_lt, nat_eq, nat_le, nat_lt, unsigned_abs}
+use Rattle.std.specs.List.{AllByRecursion}
 use Rattle.format.specs.Numbers.{field, signed}
 use Rattle.format.specs.Refusals.{told}
 use Rattle.format.specs.declared.fault.Layer.{Layer}
@@ -38,14 +38,14 @@ pub record FirstFails (cs : List Check) (s : List ℕ) (t : Flaw) : Type 0 where
   pub here : Check
   pub after : List Check
   pub split : cs ≡ before ++ (here ∷ after)
-  pub passed : All (λ c. c.passes s ≡ true) before
+  pub passed : AllByRecursion (λ c. c.passes s ≡ true) before
   pub failed : here.passes s ≡ false
   pub tells : t ≡ here.tells
 
 -- the verdict is that of the first check that fails, and none exactly if no check fails
 pub record FirstDecides : Type 0 where
   pub some : (cs : List Check) (s : List ℕ) (t : Flaw) → (judge cs s ≡ Some t → FirstFails cs s t) × (FirstFails cs s t → judge cs s ≡ Some t)
-  pub none : (cs : List Check) (s : List ℕ) → (judge cs s ≡ None → All (λ c. c.passes s ≡ true) cs) × (All (λ c. c.passes s ≡ true) cs → judge cs s ≡ None)
+  pub none : (cs : List Check) (s : List ℕ) → (judge cs s ≡ None → AllByRecursion (λ c. c.passes s ≡ true) cs) × (AllByRecursion (λ c. c.passes s ≡ true) cs → judge cs s ≡ None)
 
 abbrev pub same_z : ℤ → ℤ → Bool
 same_z (pos a) (pos b) = a == b
@@ -67,7 +67,7 @@ latitude_at s octet = signed 2147483648 (field s octet 4)
 -- the check of each rule: refusal 6 for a length, 7 for a field of one value, 8 for a template, 9 for any other field
 abbrev pub check_of : Rule → Check
 check_of (rule.Length n) = check 6 1 (λ s. nat_eq (length s) n)
-check_of (rule.LengthFrom n) = check 6 1 (λ s. leb n (length s))
+check_of (rule.LengthFrom n) = check 6 1 (λ s. nat_le n (length s))
 check_of rule.ProductLength = check 6 1 (λ s. nat_eq (length s) (product_length s))
 check_of rule.TableLength = check 6 1 (λ s. nat_eq (length s) (17 + 2 * field s 15 2))
 check_of (rule.Fixed r) = check 7 r.octet (λ s. nat_eq (field s r.octet r.width) r.value)
@@ -75,9 +75,9 @@ check_of (rule.Template r) = check 8 r.octet (λ s. nat_eq (field s r.octet r.wi
 check_of (rule.ProductTemplate octet) = check 8 octet (λ s. known_product (field s octet 2))
 check_of (rule.Equals r) = check 9 r.octet (λ s. nat_eq (field s r.octet r.width) r.value)
 check_of (rule.Within octet width low high) = check 9 octet (λ s. nat_le low (field s octet width) && nat_le (field s octet width) high)
-check_of (rule.AtMost octet most) = check 9 octet (λ s. leb (field s octet 2) (field s most 2))
+check_of (rule.AtMost octet most) = check 9 octet (λ s. nat_le (field s octet 2) (field s most 2))
 check_of (rule.Day octet year month) = check 9 octet (λ s. nat_le 1 (field s octet 1) && nat_le (field s octet 1) (days_in (field s year 2) (field s month 1)))
-check_of (rule.Latitude octet) = check 9 octet (λ s. leb (unsigned_abs (latitude_at s octet)) 90000000)
+check_of (rule.Latitude octet) = check 9 octet (λ s. nat_le (unsigned_abs (latitude_at s octet)) 90000000)
 check_of (rule.Cells octet columns points) = check 9 octet (λ s. nat_eq (field s columns 4 * field s octet 4) (field s points 4))
 check_of (rule.South octet first count) = check 9 octet (λ s. cond (field s count 4 == 1) (same_z (latitude_at s octet) (latitude_at s first)) (int_lt (latitude_at s octet) (latitude_at s first)))
 check_of (rule.East octet first count) = check 9 octet (λ s. cond (field s count 4 == 1) (field s octet 4 == field s first 4) (nat_lt (field s first 4) (field s octet 4)))

@@ -1,5 +1,5 @@
 use Rattle.std.proofs.Common.{length, Ok, sym, refl, ap, subst, arith}
-use Rattle.std.specs.List.{AllByRecursion as All}
+use Rattle.std.specs.List.{AllByRecursion}
 use Rattle.messages.specs.Lawful.{LawfulField}
 use Rattle.loader.specs.Held.{ahead}
 use Rattle.listing.proofs.Printing.{Printing, begin, more, done}
@@ -9,7 +9,7 @@ pub loop-field-init : goal.loop-field-init
 loop-field-init g c = subst (λ w. Printing g.W.Write.write_str_gives c.args.f.now (ahead c.args.fields) 0 (ahead w) c.args.f.now) (sym c.into_iter-field-iterator.ensures.into_iter_gives) (begin g.W.Write.write_str_gives c.args.f.now (ahead c.args.fields) c.requires.lawful)
 
 pub figures_of-figures-requires : goal.figures_of-figures-requires
-figures_of-figures-requires g c = (subst (All LawfulField) c.in-Some.ensures.steps c.loop-field.invariant.lawful).0
+figures_of-figures-requires g c = (subst (AllByRecursion LawfulField) c.in-Some.ensures.steps c.loop-field.invariant.lawful).0
 
 pub overflow_add-number : goal.overflow_add-number
 overflow_add-number g c = omega (arith, c.loop-field.invariant.count, ap length c.in-Some.ensures.steps, c.requires.few)

@@ -1,5 +1,5 @@
 use Rattle.std.proofs.Common.{◌≡◌, ◌++◌, length, sym, refl, ap, ◌∙◌, subst, ap₂, arith}
-use Rattle.std.specs.List.{AllByRecursion as All}
+use Rattle.std.specs.List.{AllByRecursion}
 use Rattle.messages.specs.Lawful.{LawfulField}
 use Rattle.loader.specs.Held.{held_fields, ahead}
 use Rattle.loader.proofs.Lawfulness.{held_lawful}
@@ -10,7 +10,7 @@ use Rattle.listing.proofs.lines.ListingDisplay.fmt.Goals as goal
 
 pub write_fields-requires : goal.write_fields-requires
 write_fields-requires g c = record {
-  lawful = subst (All LawfulField) (sym c.fields.ensures) (held_lawful c.args.self.now.loader.octets.now);
+  lawful = subst (AllByRecursion LawfulField) (sym c.fields.ensures) (held_lawful c.args.self.now.loader.octets.now);
   few = omega (arith, ap length c.fields.ensures, c.count-fields.ensures, c.count-fields.type_inv);
 }
 
