@@ -2,3 +2,4 @@ pub mod Codes
 pub mod Told
 pub mod Rows
 pub mod Filling
+pub mod Walks

@@ -1,8 +1,9 @@
 -- Runs within a row.
-use Rattle.std.proofs.Common.{◌≡◌, ℕ, ◌+◌, ◌-◌, ◌*◌, ◌/◌, ◌%◌, ◌<◌, ◌≤◌, min, Bool, true, false, cond, ltb, sym, refl, ap, ◌∙◌, ap₂, ⊎_elim, add_assoc, arith}
+use Rattle.std.proofs.Common.{◌≡◌, ℕ, ◌+◌, ◌-◌, ◌*◌, ◌/◌, ◌%◌, ◌<◌, ◌≤◌, min, sym, ap, ◌∙◌, ap₂, add_assoc, arith}
 use Rattle.std.proofs.lemmas.Nat.{div-add-mod', div-mul-add, mod-mul-add, mul-add-lt, div_below, mod_below}
 use Rattle.std.proofs.lemmas.List.FromFn.{get_or-map-range_with_len}
-use Rattle.std.proofs.lemmas.Bool.{cases_lt, lt-ltb, le-ltb}
+use Rattle.std.proofs.lemmas.Bool.Decides.{nat_tests}
+use Rattle.std.proofs.lemmas.Bool.{lt-ltb}
 use Rattle.charts.specs.declared.overlay.Rule.{Rule}
 use Rattle.charts.specs.Pictures.{Picture, RunAt, RowRun, level_at, drawn}
 use Rattle.charts.specs.Windows.{windowed}
@@ -38,14 +39,14 @@ run_drawn w h f q v n pos lt some le same =
       past = λ out. absurd (omega arith);
     }
 
-both_zero : (b : Bool) → ◌≡◌ {A = ℕ} (cond b 0 0) 0
-both_zero true = refl
-both_zero false = refl
-
 level_outside : (p : Picture) (row column : ℕ) → p.width ≤ column → level_at p row column ≡ 0
-level_outside p row column wide = rw (le-ltb column p.width wide) (both_zero (ltb row p.height))
+level_outside p row column wide = grind (arith, nat_tests)
 
-module _ (p : Picture) (row column v m : ℕ) (low : row < p.height) (run : RunAt p (row * p.width + column) v m) where
+-- a run that was asked for at a row and a column, where the width was asked for first
+module _ (p : Picture) (row column v m width : ℕ) (wide : width ≡ p.width) (low : row < p.height) (answer : RunAt p (row * width + column) v m) where
+  run : RunAt p (row * p.width + column) v m
+  run = rw wide at answer
+
   level_run : (k : ℕ) → k < m → column + k < p.width → level_at p row (column + k) ≡ v
   level_run k below lt =
       rw (lt-ltb row p.height low, lt-ltb (column + k) p.width lt, ← add_assoc (row * p.width) column k) (run.same k below)
@@ -56,10 +57,7 @@ module _ (p : Picture) (row column v m : ℕ) (low : row < p.height) (run : RunA
     some = λ h. h;
     within = omega arith;
     same = λ k h.
-        ⊎_elim
-        (λ (lt : column + k < p.width). level_run k (omega arith) lt ∙ zero)
-        (λ (ge : p.width ≤ column + k). level_outside p row (column + k) ge)
-        (cases_lt (column + k) p.width);
+        grind (arith, level_run k, level_outside p row (column + k));
   }
 
   pub row_part : (most n : ℕ) → column < p.width → n ≡ min (min m (p.width - column)) most → RowRun p row column most v n

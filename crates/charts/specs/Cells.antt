@@ -1,5 +1,5 @@
 -- What cells tell, and what a buffer of them shows.
-use Rattle.std.specs.Prelude.{◌≡◌, ℕ, ◌-◌, ◌*◌, ◌<◌, ◌≤◌, min, cond, List, ◌++◌, map, length, replicate, ◌==◌, ◌≢◌, slice_index}
+use Rattle.std.specs.Prelude.{◌≡◌, ℕ, ◌-◌, ◌*◌, ◌<◌, ◌≤◌, min, if◌then◌else◌, List, ◌++◌, map, length, replicate, ◌==◌, ◌≢◌, slice_index}
 use Rattle.charts.specs.declared.cells.Cells.{Cells}
 use Rattle.charts.specs.Pictures.{Picture, pictured}
 
@@ -9,7 +9,7 @@ octet_level c = min c 255
 
 -- the rain level if the cause is 1, and else 0
 abbrev pub marked_level : ℕ → ℕ → ℕ
-marked_level rain cause = cond (cause == 1) (octet_level rain) 0
+marked_level rain cause = if cause == 1 then octet_level rain else 0
 
 -- the longest stretch of one level that levels begin with
 pub record Stretch (levels : List ℕ) (level n : ℕ) : Type 0 where

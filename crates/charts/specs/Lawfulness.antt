@@ -1,8 +1,9 @@
--- Each kind of chart has a lawful picture, if those below have. These proofs stand here since a member of an impl may cite
--- no other.
-use Rattle.std.specs.Prelude.{◌≡◌, ℕ, zero, suc, ◌+◌, ◌-◌, ◌*◌, ◌/◌, ◌%◌, ◌≤◌, Bool, true, false, cond, List, [], ◌∷◌, ◌++◌, map, length, replicate, ◌==◌, nat_lt, slice_index, slice_index_or, refl}
+-- Each kind of chart has a lawful picture, if those below have. These proofs stand here, not in proofs/, since an impl's
+-- `ghost use` may name only what is in its own crate's specs/.
+use Rattle.std.specs.Prelude.{◌≡◌, ℕ, zero, suc, ◌+◌, ◌-◌, ◌*◌, ◌/◌, ◌%◌, ◌≤◌, List, [], ◌∷◌, ◌++◌, map, length, replicate, ◌==◌, nat_lt, slice_index, slice_index_or, refl}
 use Rattle.std.proofs.Common.{◌∙◌, arith}
 use Rattle.std.specs.List.{range_with_len}
+use Rattle.std.proofs.lemmas.Bool.{cond_both}
 use Rattle.std.proofs.lemmas.List.{length-append, length-replicate, length-map}
 use Rattle.std.proofs.lemmas.List.FromFn.{length-map-range_with_len}
 use Rattle.format.specs.Limits.{Sized}
@@ -15,25 +16,21 @@ use Rattle.charts.specs.Recodings.{recoded}
 use Rattle.charts.specs.Windows.{windowed}
 use Rattle.charts.specs.Overlays.{merged, overlaid}
 
-either : (b : Bool) (m n most : ℕ) → m ≤ most → n ≤ most → cond b m n ≤ most
-either true m n most p q = p
-either false m n most p q = q
-
 pub octet_low : (c : ℕ) → octet_level c ≤ 255
 octet_low c = omega arith
 
 pub marked_low : (rain cause : ℕ) → marked_level rain cause ≤ 255
-marked_low rain cause = either (cause == 1) (octet_level rain) 0 255 (omega arith) (omega arith)
+marked_low rain cause = cond_both (cause == 1) (octet_level rain) 0 (λ x. x ≤ 255) (λ _. octet_low rain) (λ _. omega arith)
 
 map_low : {X : Type 0} (f : X → ℕ) (xs : List X) → ((x : X) → f x ≤ 255) → (i : ℕ) → slice_index (map f xs) i ≤ 255
 map_low f [] h i = omega arith
 map_low f (x ∷ xs) h zero = h x
 map_low f (x ∷ xs) h (suc i) = map_low f xs h i
 
-zeros : (m i : ℕ) → slice_index_or {A = ℕ} (replicate m 0) i 0 ≡ 0
-zeros zero i = refl
-zeros (suc m) zero = refl
+-- what a list of zeros has at any index
+pub zeros : (m i : ℕ) → slice_index_or {A = ℕ} (replicate m 0) i 0 ≡ 0
 zeros (suc m) (suc i) = zeros m i
+zeros m i = refl
 
 -- zeros behind a list are what it has past its end
 pub padded_at : (xs : List ℕ) (m i : ℕ) → slice_index (xs ++ replicate m 0) i ≡ slice_index xs i
@@ -60,7 +57,8 @@ lawful_recoded table p law low = record {
 
 level_low : (p : Picture) → Lawful p → (row column : ℕ) → level_at p row column ≤ 255
 level_low p law row column =
-    either (nat_lt row p.height) _ 0 255 (either (nat_lt column p.width) _ 0 255 (law.octets (row * p.width + column)) (omega arith)) (omega arith)
+    let low : (x : ℕ) → Type 0 = λ x. x ≤ 255 in
+    cond_both (nat_lt row p.height) _ 0 low (λ _. cond_both (nat_lt column p.width) _ 0 low (λ _. law.octets (row * p.width + column)) (λ _. omega arith)) (λ _. omega arith)
 
 lawful_drawn : (w h : ℕ) (f : ℕ → ℕ → ℕ) → Sized w h → ((i j : ℕ) → f i j ≤ 255) → Lawful (drawn w h f)
 lawful_drawn w h f sized low = record {
@@ -75,7 +73,7 @@ lawful_windowed w h column row p sized law =
 
 merged_low : (rule : Rule) (a b : ℕ) → a ≤ 255 → b ≤ 255 → merged rule a b ≤ 255
 merged_low Higher a b p q = omega arith
-merged_low Fill a b p q = either (a == 0) b a 255 q p
+merged_low Fill a b p q = cond_both (a == 0) b a (λ x. x ≤ 255) (λ _. q) (λ _. p)
 
 pub lawful_overlaid : (rule : Rule) (p s : Picture) → Lawful p → Lawful s → Lawful (overlaid rule p s)
 lawful_overlaid rule p s law under =

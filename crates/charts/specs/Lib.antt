@@ -3,4 +3,5 @@ pub mod Cells
 pub mod Recodings
 pub mod Windows
 pub mod Overlays
+pub mod ChartRuns
 pub mod Lawfulness

@@ -1,5 +1,5 @@
 -- One picture over another.
-use Rattle.std.specs.Prelude.{ℕ, max, cond, ◌==◌}
+use Rattle.std.specs.Prelude.{ℕ, max, if◌then◌else◌, ◌==◌}
 use Rattle.charts.specs.declared.overlay.Rule.{Rule}
 use Rattle.charts.specs.declared.overlay.Rule.TheVariants.{Higher, Fill}
 use Rattle.charts.specs.declared.overlay.Overlay.{Overlay}
@@ -8,7 +8,7 @@ use Rattle.charts.specs.Pictures.{Picture, level_at, drawn}
 -- the greater level, or the first unless it is 0
 abbrev pub merged : Rule → ℕ → ℕ → ℕ
 merged Higher a b = max a b
-merged Fill a b = cond (a == 0) b a
+merged Fill a b = if a == 0 then b else a
 
 -- the rule of an overlay with no rule named
 abbrev pub default_rule : Rule

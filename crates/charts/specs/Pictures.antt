@@ -1,5 +1,5 @@
 -- What a chart shows, its picture, and what it answers.
-use Rattle.std.specs.Prelude.{◌≡◌, ℕ, ◌+◌, ◌*◌, ◌/◌, ◌%◌, ◌<◌, ◌≤◌, cond, List, [], ◌∷◌, map, length, Ok, Err, Result, nat_lt, slice_index}
+use Rattle.std.specs.Prelude.{◌≡◌, ℕ, ◌+◌, ◌*◌, ◌/◌, ◌%◌, ◌<◌, ◌≤◌, if◌then◌else◌, List, [], ◌∷◌, map, length, Ok, Err, Result, nat_lt, slice_index}
 use Rattle.std.specs.List.{range_with_len}
 use Rattle.format.specs.Limits.{Sized}
 use Rattle.format.specs.Refusals.{refusal, told}
@@ -41,7 +41,7 @@ Shown Fit p before after (Err e) = (Fit → ⊥) × (refusal e ≡ told 14 layer
 
 -- the level at a row and a column, and 0 outside the picture
 abbrev pub level_at : Picture → ℕ → ℕ → ℕ
-level_at p row column = cond (nat_lt row p.height) (cond (nat_lt column p.width) (slice_index p.levels (row * p.width + column)) 0) 0
+level_at p row column = if nat_lt row p.height then if nat_lt column p.width then slice_index p.levels (row * p.width + column) else 0 else 0
 
 -- the picture of a size with the level that is given for each row and column
 abbrev pub drawn : ℕ → ℕ → (ℕ → ℕ → ℕ) → Picture

@@ -10,11 +10,12 @@ pub trait Cell {
     /// The level that it tells.
     ghost tells: { Self → ℕ };
 
-    ghost octet: { (c : Self) → tells c ≤ 255 };
-
     /// The level that it tells.
     fn level(&self) -> u8
         ensures { result ≡ tells self.now };
+
+    /// A level is 255 at most.
+    ghost octet: { (c : Self) → tells c ≤ 255 };
 }
 
 /// A plain octet is its own level.
@@ -32,7 +33,7 @@ impl Cell for u8 {
 pub const NORMAL: u8 = 1;
 
 /// A cell of rain with an error cause.
-#[derive(Clone, Copy)]
+#[derive(Clone, Copy, PartialEq, Eq, Debug)]
 pub struct MarkedCell {
     pub rain: u8,
     pub cause: u8,
@@ -54,16 +55,13 @@ impl Cell for MarkedCell {
 pub fn stretch<C: Cell>(cells: &[C]) -> Run
     ensures { Stretch (map C.tells cells.now) result.level result.length }
 {
-    if cells.len() == 0 {
-        return Run {
-            level: 0,
-            length: 0,
-        };
-    }
-    let level = cells[0].level();
-    let mut length = 1;
-    while length < cells.len() && cells[length].level() == level {
-        length += 1;
-    }
+    let Some(first) = cells.first() else {
+        return Run::default();
+    };
+    let level = first.level();
+    let length = cells
+        .iter()
+        .take_while(|cell| cell.level() == level)
+        .count();
     Run { level, length }
 }

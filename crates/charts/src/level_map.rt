@@ -1,10 +1,11 @@
 //! Maps of levels.
 ghost use Rattle.std.specs.Prelude.{◌≡◌, ℕ, ◌≤◌, length, replicate, slice_index, slice_set};
 
+// No `impl Model`: the law of `Recoding` reads off a map that its entries are 255 at most, and a list would not say so.
 /// A level for each of the 256 codes.
 #[derive(Clone, Copy)]
 pub struct LevelMap {
-    pub(crate) table: [u8; 256],
+    table: [u8; 256],
     ghost octets: { (k : ℕ) → slice_index table k ≤ 255 },
 }
 

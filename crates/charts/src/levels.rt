@@ -4,6 +4,7 @@ ghost use Rattle.format.specs.Refusals.{refusal, told};
 ghost use Rattle.format.specs.declared.fault.Layer.TheVariants as layer;
 
 use crate::chart::Chart;
+use crate::chart_runs::ChartRuns;
 use format::fault::{ChartFault, Fault};
 
 /// Writes the level of each cell, row by row, into a buffer of as many octets; refused with 14 where the buffer has
@@ -14,16 +15,13 @@ pub fn write_levels<C: Chart>(chart: &mut C, buffer: &mut [u8]) -> Result<(), Fa
         (λ e. (length buffer.old ≢ length (C.picture chart.old).levels) × (refusal e ≡ told 14 layer.Charts 0 0 0) × (buffer.new ≡ buffer.old)) }
     ensures same { C.picture chart.new ≡ C.picture chart.old }
 {
-    let cells = (*chart).size().cells();
+    let cells = chart.size().cells();
     if buffer.len() != cells {
-        return Err(Fault::Chart(ChartFault::Limits));
+        return Err(ChartFault::Limits.into());
     }
-    let mut cell = 0;
-    while cell < cells {
-        let run = chart.run(cell);
+    for (cell, run) in ChartRuns::over(chart) {
         let next = cell + run.length;
         buffer[cell..next].fill(run.level);
-        cell = next;
     }
     Ok(())
 }

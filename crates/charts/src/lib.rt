@@ -2,9 +2,9 @@
 #![tactic(auto)]
 
 pub mod cell;
-pub mod cell_chart;
 pub mod cells;
 pub mod chart;
+pub mod chart_runs;
 pub mod level_map;
 pub mod levels;
 pub mod overlay;
@@ -12,4 +12,3 @@ pub mod recoding;
 mod row;
 pub mod size;
 pub mod window;
-pub mod window_chart;

@@ -8,21 +8,13 @@ use crate::row::run_in_row;
 use crate::size::Size;
 
 /// Which of two levels an overlay takes.
-#[derive(Clone, Copy)]
+#[derive(Clone, Copy, PartialEq, Eq, Debug, Default)]
 pub enum Rule {
-    /// The greater level.
+    /// The greater level; taken where no rule is named.
+    #[default]
     Higher,
     /// The first chart's level, unless it is 0.
     Fill,
-}
-
-/// The rule of an overlay with no rule named.
-impl Default for Rule {
-    ghost is_default = { λ r. r ≡ default_rule };
-
-    fn default() -> Rule {
-        Self::Higher
-    }
 }
 
 impl Rule {
@@ -30,6 +22,7 @@ impl Rule {
     pub fn level(self, first: u8, second: u8) -> u8
         ensures { result ≡ merged self first second }
     {
+        // a match and no closure: a rule is a value, which an overlay keeps and takes another for
         match self {
             Rule::Higher => first.max(second),
             Rule::Fill => if first == 0 { second } else { first },
@@ -78,15 +71,11 @@ impl<A: Chart, B: Chart> Overlay<A, B> {
     pub fn into_charts(self) -> (A, B)
         ensures { (result.0 ≡ self.first) × (result.1 ≡ self.second) }
     {
-        let Overlay {
-            first,
-            second,
-            rule: _,
-        } = self;
-        (first, second)
+        (self.first, self.second)
     }
 }
 
+// `over` by another name: the chart has this name
 /// The hazard chart: at each cell the higher level of inundation and flood.
 pub fn hazard<A: Chart, B: Chart>(inundation: A, flood: B) -> Overlay<A, B>
     ensures charts { (result.first ≡ inundation) × (result.second ≡ flood) }
@@ -107,10 +96,7 @@ impl<A: Chart, B: Chart> Chart for Overlay<A, B> {
     fn run(&mut self, cell: usize) -> Run {
         let size = self.first.size();
         if cell >= size.cells() {
-            return Run {
-                level: 0,
-                length: 0,
-            };
+            return Run::default();
         }
         let row = cell / size.width;
         let column = cell % size.width;

@@ -15,6 +15,7 @@ pub struct Recoding<C> {
 }
 
 impl<C: Chart> Recoding<C> {
+    // `below` in these clauses and a window's: each of its own type
     /// The chart below through a new map, which sends every level to 0.
     pub fn over(below: C) -> Recoding<C>
         ensures below { result.below ≡ below }
@@ -46,8 +47,7 @@ impl<C: Chart> Recoding<C> {
     pub fn into_below(self) -> C
         ensures { result ≡ self.below }
     {
-        let Recoding { below, map: _ } = self;
-        below
+        self.below
     }
 }
 

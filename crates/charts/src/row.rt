@@ -10,7 +10,7 @@ pub(crate) fn run_in_row<C: Chart>(chart: &mut C, row: usize, column: usize, mos
     ensures answer { RowRun (C.picture chart.old) row column most result.level result.length }
     ensures same { C.picture chart.new ≡ C.picture chart.old }
 {
-    let size = (*chart).size();
+    let size = chart.size();
     if row >= size.height || column >= size.width {
         return Run {
             level: 0,

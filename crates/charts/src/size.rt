@@ -8,14 +8,27 @@ use format::fault::{ChartFault, Fault};
 use format::limits::{MOST_CELLS, MOST_SIDE};
 
 /// A width and a height within their limits.
-#[derive(Clone, Copy)]
+#[derive(Clone, Copy, PartialEq, Eq, Debug)]
 pub struct Size {
     pub width: usize,
     pub height: usize,
     ghost sized: { Sized width height },
 }
 
+/// One cell: the size of a new chart.
+impl Default for Size {
+    ghost is_default = { λ s. (s.width ≡ 1) × (s.height ≡ 1) };
+
+    fn default() -> Size {
+        Size {
+            width: 1,
+            height: 1,
+        }
+    }
+}
+
 impl Size {
+    // two numbers here, and where a chart is opened or a window placed: those calls are the test that makes a size of them
     /// That width and height; refused with 14 where they are outside their limits.
     pub fn new(width: usize, height: usize) -> Result<Size, Fault>
         ensures { MatchResult result
@@ -24,10 +37,10 @@ impl Size {
     {
         let side = MOST_SIDE as usize;
         if width < 1 || width > side || height < 1 || height > side {
-            return Err(Fault::Chart(ChartFault::Limits));
+            return Err(ChartFault::Limits.into());
         }
         if width * height > MOST_CELLS as usize {
-            return Err(Fault::Chart(ChartFault::Limits));
+            return Err(ChartFault::Limits.into());
         }
         Ok(Size { width, height })
     }

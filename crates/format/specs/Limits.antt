@@ -2,5 +2,9 @@
 use Rattle.std.specs.Prelude.{ℕ, ◌*◌, ◌≤◌}
 
 -- a width and a height within their limits
-abbrev pub Sized : ℕ → ℕ → Type 0
-Sized width height = (1 ≤ width) × (width ≤ 16384) × (1 ≤ height) × (height ≤ 16384) × (width * height ≤ 33554432)
+pub record Sized (width height : ℕ) : Type 0 where
+  pub wide : 1 ≤ width
+  pub width_limit : width ≤ 16384
+  pub high : 1 ≤ height
+  pub height_limit : height ≤ 16384
+  pub cells_limit : width * height ≤ 33554432

@@ -1,5 +1,5 @@
 -- Numbers in octets: big-endian, and signed ones by sign and magnitude.
-use Rattle.std.specs.Prelude.{ℕ, suc, ◌+◌, ◌-◌, min, cond, List, take, drop, ℤ, pos, negsuc, neg_ℤ, Some, None, Option, nat_lt, unsigned_abs}
+use Rattle.std.specs.Prelude.{ℕ, suc, ◌+◌, ◌-◌, min, if◌then◌else◌, List, take, drop, ℤ, pos, negsuc, neg_ℤ, Some, None, Option, nat_lt, unsigned_abs}
 use Rattle.std.specs.Int.Digits as digits
 
 -- the number that octets write, the most significant first
@@ -12,7 +12,7 @@ field s octet width = number (take (min width 8) (drop (octet - 1) s))
 
 -- the signed number that raw stands for: the top bit, which alone is worth `top`, means minus, and the other bits are the magnitude
 abbrev pub signed : ℕ → ℕ → ℤ
-signed top raw = cond (nat_lt raw top) (pos raw) (neg_ℤ (pos (raw - top)))
+signed top raw = if nat_lt raw top then pos raw else neg_ℤ (pos (raw - top))
 
 -- how a signed number is written: zero without the top bit
 abbrev pub sign_written : ℕ → ℤ → ℕ
@@ -21,4 +21,4 @@ sign_written top (negsuc n) = top + suc n
 
 -- what is written of a signed number, if its magnitude leaves the top bit free
 abbrev pub signed_raw : ℕ → ℤ → Option ℕ
-signed_raw top z = cond (nat_lt (unsigned_abs z) top) (Some (sign_written top z)) None
+signed_raw top z = if nat_lt (unsigned_abs z) top then Some (sign_written top z) else None

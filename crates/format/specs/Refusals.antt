@@ -1,5 +1,6 @@
 -- What each fault tells: one definition over the fault enum.
-use Rattle.std.specs.Prelude.{ℕ, Ok, Err, Result}
+use Rattle.std.specs.Prelude.{ℕ, Result}
+use Rattle.std.specs.Result.{result_map_both}
 use Rattle.format.specs.declared.fault.Fault.{Fault}
 use Rattle.format.specs.declared.fault.Fault.TheVariants.{Message, Section, Chart, Packer}
 use Rattle.format.specs.declared.fault.InSection.{InSection}
@@ -67,13 +68,10 @@ refusal (Packer f at) = told (packer_number f) layer.Packer at.place at.fields 0
 
 -- an answer with its fault as what that tells
 abbrev pub refused : {X : Type 0} → Result X Fault → Result X Refusal
-refused (Ok x) = Ok x
-refused (Err e) = Err (refusal e)
+refused r = result_map_both (λ x. x) refusal r
 
 abbrev pub refused_in_section : {X : Type 0} → Result X InSection → Result X Refusal
-refused_in_section (Ok x) = Ok x
-refused_in_section (Err e) = Err (section_refusal e)
+refused_in_section r = result_map_both (λ x. x) section_refusal r
 
 abbrev pub refused_in_string : {X : Type 0} → Result X InString → Result X Refusal
-refused_in_string (Ok x) = Ok x
-refused_in_string (Err e) = Err (string_refusal e)
+refused_in_string r = result_map_both (λ x. x) string_refusal r

@@ -2,102 +2,105 @@
 ghost use Rattle.std.specs.Prelude.{◌≡◌};
 ghost use Rattle.format.specs.declared.fault.Fault.TheVariants as fault;
 ghost use Rattle.format.specs.declared.fault.InSection.TheVariants as section;
-ghost use Rattle.format.specs.Refusals.{refusal, section_refusal, message_number, section_number, string_number, chart_number, packer_number};
+ghost use Rattle.format.specs.Refusals.{refusal, section_refusal, told};
+
+use crate::section::Section;
 
 /// A fault of a message as a whole.
-#[derive(Clone, Copy)]
+#[derive(Clone, Copy, PartialEq, Eq, Debug)]
 pub enum MessageFault {
     /// There are fewer octets than the message needs or says.
-    CutShort,
+    CutShort = 1,
     /// A fixed field of section 0 has another value.
-    Indicator,
+    Indicator = 2,
     /// The total length is not that of the octets, or is above the limit.
-    TotalLength,
+    TotalLength = 3,
     /// A section's number may not come here.
-    Order,
+    Order = 4,
     /// Octets stand after the end mark.
-    AfterEnd,
+    AfterEnd = 5,
 }
 
 /// A fault inside one section.
-#[derive(Clone, Copy)]
+#[derive(Clone, Copy, PartialEq, Eq, Debug)]
 pub enum SectionFault {
     /// The section's length.
-    Length,
+    Length = 6,
     /// A field that has one value has another.
-    Fixed,
+    Fixed = 7,
     /// A template number.
-    Template,
+    Template = 8,
     /// Any other field.
-    Value,
+    Value = 9,
 }
 
 /// A fault of a run string.
-#[derive(Clone, Copy)]
+#[derive(Clone, Copy, PartialEq, Eq, Debug)]
 pub enum StringFault {
     /// The string begins with a digit.
-    DigitFirst,
+    DigitFirst = 10,
     /// A run passes the last cell.
-    PastLastCell,
+    PastLastCell = 11,
     /// The string is over before the last cell.
-    OverEarly,
+    OverEarly = 12,
 }
 
 /// A fault of the builder of charts.
-#[derive(Clone, Copy)]
+#[derive(Clone, Copy, PartialEq, Eq, Debug)]
 pub enum ChartFault {
     /// There is no field of that number.
-    NoField,
+    NoField = 13,
     /// A size or start outside its limits, or another number of cells.
-    Limits,
+    Limits = 14,
 }
 
 /// A fault of a put, or of the buffer that it is given.
-#[derive(Clone, Copy)]
+#[derive(Clone, Copy, PartialEq, Eq, Debug)]
 pub enum PackerFault {
     /// The chart's size is not the frame's.
-    Size,
+    Size = 15,
     /// A level is above the highest that the table has a value for.
-    Level,
+    Level = 16,
     /// The buffer, or the limit of a message, is too small.
-    Room,
+    Room = 17,
 }
 
+// beside `Spot` for its `u32`: so no sum of it with a slice's length can wrap, and a fault's place is such a sum
 /// Where a part of a message begins: its place in octets, counted from 0, and the fields finished before it.
-#[derive(Clone, Copy)]
+#[derive(Clone, Copy, PartialEq, Eq, Debug)]
 pub struct Start {
     pub place: u32,
     pub fields: usize,
 }
 
 /// Where a fault was met: the place in octets or cells, counted from 0, and the fields finished or accepted before it.
-#[derive(Clone, Copy)]
+#[derive(Clone, Copy, PartialEq, Eq, Debug)]
 pub struct Spot {
     pub place: usize,
     pub fields: usize,
 }
 
 /// A string's fault: where, and how many cells were finished before it.
-#[derive(Clone, Copy)]
+#[derive(Clone, Copy, PartialEq, Eq, Debug)]
 pub struct InString {
     pub fault: StringFault,
     pub at: Spot,
     pub cells: usize,
 }
 
-/// A section's own fault, with the section's number, or that of the string in it.
-#[derive(Clone, Copy)]
+/// A section's own fault, with the section, or that of the string in it.
+#[derive(Clone, Copy, PartialEq, Eq, Debug)]
 pub enum InSection {
     Own {
         fault: SectionFault,
-        section: u8,
+        section: Section,
         at: Spot,
     },
     String(InString),
 }
 
 /// Why a call is refused.
-#[derive(Clone, Copy)]
+#[derive(Clone, Copy, PartialEq, Eq, Debug)]
 pub enum Fault {
     Message(MessageFault, Spot),
     Section(InSection),
@@ -106,18 +109,19 @@ pub enum Fault {
 }
 
 /// The layer that a fault is one of.
-#[derive(Clone, Copy)]
+#[derive(Clone, Copy, PartialEq, Eq, Debug)]
 pub enum Layer {
     Message,
-    Section(u8),
+    Section(Section),
     String,
     Charts,
     Packer,
 }
 
 /// What a fault tells: its number, its layer, its place, and the fields and cells finished before it.
-#[derive(Clone, Copy)]
+#[derive(Clone, Copy, PartialEq, Eq, Debug)]
 pub struct Refusal {
+    // a number and no enum: it is what a person is told
     pub number: u8,
     pub layer: Layer,
     pub place: usize,
@@ -130,6 +134,14 @@ impl From<InString> for InSection {
 
     fn from(value: InString) -> InSection {
         InSection::String(value)
+    }
+}
+
+impl From<ChartFault> for Fault {
+    ghost from_gives = { λ e f. f ≡ fault.Chart e };
+
+    fn from(value: ChartFault) -> Fault {
+        Fault::Chart(value)
     }
 }
 
@@ -147,31 +159,20 @@ impl Fault {
         ensures { result ≡ refusal self.now }
     {
         match *self {
-            Fault::Message(fault, at) => Refusal {
-                number: message_number(fault),
-                layer: Layer::Message,
-                place: at.place,
-                fields: at.fields,
-                cells: 0,
-            },
+            Fault::Message(fault, at) => refusal_at(fault as u8, Layer::Message, at),
             Fault::Section(inside) => section_refusal(inside),
             Fault::Chart(fault) => Refusal {
-                number: chart_number(fault),
+                number: fault as u8,
                 layer: Layer::Charts,
                 place: 0,
                 fields: 0,
                 cells: 0,
             },
-            Fault::Packer(fault, at) => Refusal {
-                number: packer_number(fault),
-                layer: Layer::Packer,
-                place: at.place,
-                fields: at.fields,
-                cells: 0,
-            },
+            Fault::Packer(fault, at) => refusal_at(fault as u8, Layer::Packer, at),
         }
     }
 
+    // five that each tell one part: callers ask for one, and `refusal` tells all
     /// Its number, from 1 to 17.
     pub fn number(&self) -> u8
         ensures { result ≡ (refusal self.now).number }
@@ -208,75 +209,34 @@ impl Fault {
     }
 }
 
+/// What a fault at a spot tells that is none of a string.
+fn refusal_at(number: u8, layer: Layer, at: Spot) -> Refusal
+    ensures { result ≡ told number layer at.place at.fields 0 }
+{
+    Refusal {
+        number,
+        layer,
+        place: at.place,
+        fields: at.fields,
+        cells: 0,
+    }
+}
+
 fn section_refusal(inside: InSection) -> Refusal
     ensures { result ≡ section_refusal inside }
 {
     match inside {
-        InSection::Own { fault, section, at } => Refusal {
-            number: section_number(fault),
-            layer: Layer::Section(section),
+        InSection::Own { fault, section, at } => refusal_at(
+            fault as u8,
+            Layer::Section(section),
+            at,
+        ),
+        InSection::String(InString { fault, at, cells }) => Refusal {
+            number: fault as u8,
+            layer: Layer::String,
             place: at.place,
             fields: at.fields,
-            cells: 0,
+            cells,
         },
-        InSection::String(e) => Refusal {
-            number: string_number(e.fault),
-            layer: Layer::String,
-            place: e.at.place,
-            fields: e.at.fields,
-            cells: e.cells,
-        },
-    }
-}
-
-fn message_number(fault: MessageFault) -> u8
-    ensures { result ≡ message_number fault }
-{
-    match fault {
-        MessageFault::CutShort => 1,
-        MessageFault::Indicator => 2,
-        MessageFault::TotalLength => 3,
-        MessageFault::Order => 4,
-        MessageFault::AfterEnd => 5,
-    }
-}
-
-fn section_number(fault: SectionFault) -> u8
-    ensures { result ≡ section_number fault }
-{
-    match fault {
-        SectionFault::Length => 6,
-        SectionFault::Fixed => 7,
-        SectionFault::Template => 8,
-        SectionFault::Value => 9,
-    }
-}
-
-fn string_number(fault: StringFault) -> u8
-    ensures { result ≡ string_number fault }
-{
-    match fault {
-        StringFault::DigitFirst => 10,
-        StringFault::PastLastCell => 11,
-        StringFault::OverEarly => 12,
-    }
-}
-
-fn chart_number(fault: ChartFault) -> u8
-    ensures { result ≡ chart_number fault }
-{
-    match fault {
-        ChartFault::NoField => 13,
-        ChartFault::Limits => 14,
-    }
-}
-
-fn packer_number(fault: PackerFault) -> u8
-    ensures { result ≡ packer_number fault }
-{
-    match fault {
-        PackerFault::Size => 15,
-        PackerFault::Level => 16,
-        PackerFault::Room => 17,
     }
 }

@@ -4,5 +4,6 @@
 pub mod fault;
 pub mod limits;
 pub mod numbers;
+pub mod section;
 pub mod text;
 pub mod writing;

@@ -2,10 +2,10 @@
 ghost use Rattle.std.specs.Prelude.{◌≡◌, ℕ, ◌^◌, ◌<◌, ◌≤◌, min, length, IfSome};
 ghost use Rattle.format.specs.Numbers.{number, field, signed, signed_raw};
 
-/// What the top bit of two octets is worth alone.
+/// What the top bit of two octets is worth alone, for `signed` and `signed_raw`.
 pub const TOP_OF_TWO: u32 = 32_768;
 
-/// What the top bit of four octets is worth alone.
+/// What the top bit of four octets is worth alone, for `signed` and `signed_raw`.
 pub const TOP_OF_FOUR: u32 = 2_147_483_648;
 
 /// The big-endian number in `width` octets from `octet` on, which is counted from 1; of what is past the end, or

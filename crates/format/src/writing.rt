@@ -9,6 +9,7 @@ pub fn write_octets(buffer: &mut [u8], place: usize, octets: &[u8]) -> Option<us
         ((length buffer.old < place + length octets.now) × (buffer.new ≡ buffer.old))
         (λ next. (next ≡ place + length octets.now) × (next ≤ length buffer.old) × (buffer.new ≡ written buffer.old place octets.now)) }
 {
+    // by indices: of `get_mut` the proof does not learn that the buffer stays where it answers none
     if place > buffer.len() || octets.len() > buffer.len() - place {
         return None;
     }

@@ -1,7 +1,7 @@
 //! Lists the message on standard input: `gridlist < message`.
 #![tactic(auto)]
 
-use listing::lines::listing_of;
+use listing::listing::listing_of;
 use std::io;
 use std::io::Read;
 

@@ -2,5 +2,4 @@
 #![tactic(auto)]
 
 pub mod figures;
-pub mod lines;
 pub mod listing;

@@ -1,5 +1,6 @@
 -- The fields that come from a section on, in a message that loads.
-use Rattle.std.proofs.Common.{◌≡◌, ℕ, suc, ◌+◌, ◌<◌, ◌≤◌, Bool, true, false, cond, eqb, List, [], ◌++◌, length, get_or, take, drop, Some, None, Ok, Err, sym, refl, ap, ◌∙◌, subst, ap₂, append_assoc, append-nil, arith}
+use Rattle.std.proofs.Common.{◌≡◌, ℕ, suc, ◌+◌, ◌<◌, ◌≤◌, Bool, true, cond, List, [], ◌++◌, length, get_or, take, drop, Some, None, Ok, Err, sym, refl, ap, ◌∙◌, subst, ap₂, append_assoc, append-nil, arith}
+use Rattle.std.proofs.lemmas.Option.{cond_some}
 use Rattle.std.proofs.lemmas.Bool.{ne_eqb, eq-eqb, cond-false, cond-true}
 use Rattle.sections.specs.Rules.{judge, checks_for}
 use Rattle.sections.specs.Sections.{packing_of}
@@ -12,7 +13,7 @@ use Rattle.messages.specs.declared.order.Due.{Due}
 use Rattle.messages.specs.declared.order.Due.TheVariants as due
 use Rattle.messages.specs.Order.{follows}
 use Rattle.messages.specs.Messages.{Reads, Fields, Ended, stated, rules_of, string_fault, leaves, finishes}
-use Rattle.messages.specs.Messages.Reads.{whole, trailing, short, disorder, overlong, flawed, faulty, sound}
+use Rattle.messages.specs.Messages.Reads.{whole, sound}
 use Rattle.messages.specs.Meaning.{read_by, fields_of, coming}
 use Rattle.messages.proofs.Agreeing.{total, agree}
 
@@ -32,12 +33,6 @@ pub shift : {l : Last (List ℕ)} {p : ℕ} {fs : FieldList} {r : List ℕ} {o :
 shift {l} {fs = fs} {r = r} (whole e n) gs q =
     let z : fs ≡ gs = cc in
     record { more = []; is = sym z ∙ sym (append-nil fs); comes = λ p es. subst (λ x. Reads l p es r (Ok x)) (sym (append-nil es)) (whole e n) }
-shift (trailing e n) gs q = let z : ◌≡◌ {A = ℕ} 0 1 = cc in absurd (omega arith)
-shift (short e n) gs q = let z : ◌≡◌ {A = ℕ} 0 1 = cc in absurd (omega arith)
-shift (disorder e n m) gs q = let z : ◌≡◌ {A = ℕ} 0 1 = cc in absurd (omega arith)
-shift (overlong e n m k) gs q = let z : ◌≡◌ {A = ℕ} 0 1 = cc in absurd (omega arith)
-shift (flawed e n m k j) gs q = let z : ◌≡◌ {A = ℕ} 0 1 = cc in absurd (omega arith)
-shift (faulty e n m k j t) gs q = let z : ◌≡◌ {A = ℕ} 0 1 = cc in absurd (omega arith)
 shift {fs = fs} {r = r} (sound {d = d} live long next fits ok text rest) gs q =
     let h = shift rest gs q in
     let made = finishes d (take (stated r) r) in
@@ -46,6 +41,7 @@ shift {fs = fs} {r = r} (sound {d = d} live long next fits ok text rest) gs q =
       is = h.is ∙ append_assoc fs made h.more;
       comes = λ p es. sound live long next fits ok text (subst (λ x. Reads (leaves d (take (stated r) r)) (p + stated r) (es ++ made) (drop (stated r) r) (Ok x)) (append_assoc es made h.more) (h.comes (p + stated r) (es ++ made)));
     }
+shift h gs q = cc
 
 pub comes_is : (l : Last (List ℕ)) (r : List ℕ) (ms : FieldList) → Comes l r ms → coming l r ≡ ms
 unfolding coming
@@ -76,20 +72,10 @@ opens l r some = go (is_comes l r some 0 []) refl refl
   where
     go : {p : ℕ} {fs : FieldList} {o : Fields} → Reads l p fs r o → fs ≡ [] → o ≡ Ok (coming l r) → Opens l r
     go {fs = fs} (whole e n) none q = let z : fs ≡ coming l r = cc in absurd (omega (arith, some, ap length z, ap length none))
-    go (trailing e n) none q = let z : ◌≡◌ {A = ℕ} 0 1 = cc in absurd (omega arith)
-    go (short e n) none q = let z : ◌≡◌ {A = ℕ} 0 1 = cc in absurd (omega arith)
-    go (disorder e n m) none q = let z : ◌≡◌ {A = ℕ} 0 1 = cc in absurd (omega arith)
-    go (overlong e n m k) none q = let z : ◌≡◌ {A = ℕ} 0 1 = cc in absurd (omega arith)
-    go (flawed e n m k j) none q = let z : ◌≡◌ {A = ℕ} 0 1 = cc in absurd (omega arith)
-    go (faulty e n m k j t) none q = let z : ◌≡◌ {A = ℕ} 0 1 = cc in absurd (omega arith)
     go (sound {d = d} live long next fits ok text rest) none q =
         let k = shift rest (coming l r) q in
         record { due = d; long = long; next = next; fits = fits; ok = ok; text = text; more = k.more; is = k.is ∙ ap (λ (x : FieldList). (x ++ finishes d (take (stated r) r)) ++ k.more) none; comes = k.comes }
-
--- only one section may follow
-pub only : (b : Bool) (d e : Due (List ℕ)) → cond b (Some d) None ≡ Some e → e ≡ d
-only true d e q = cc
-only false d e q = let z : ◌≡◌ {A = ℕ} 0 1 = cc in absurd (omega arith)
+    go h none q = cc
 
 -- what is known of the next section by its kind: it has no flaw, and the fields come from what it leaves on
 pub record Known (l : Last (List ℕ)) (r : List ℕ) (d : Due (List ℕ)) : Type 0 where
@@ -98,29 +84,31 @@ pub record Known (l : Last (List ℕ)) (r : List ℕ) (d : Due (List ℕ)) : Typ
   pub ok : judge (checks_for (rules_of d)) (take (stated r) r) ≡ None
   pub on : coming l r ≡ finishes d (take (stated r) r) ++ coming (leaves d (take (stated r) r)) (drop (stated r) r)
 
-pub known : (l : Last (List ℕ)) (r : List ℕ) (d : Due (List ℕ)) (h : Opens l r) → h.due ≡ d → Known l r d
-known l r d h e =
-    subst (Known l r) e
+-- where only one section may follow
+pub known : (l : Last (List ℕ)) (r : List ℕ) (d : Due (List ℕ)) (b : Bool) → follows l (get_or r 4 0) ≡ cond b (Some d) None → 0 < length (coming l r) → Known l r d
+known l r d b one some =
+    let h = opens l r some in
+    subst (Known l r) (sym (cond_some b d h.due (sym one ∙ h.next)).1)
     (record { long = h.long; fits = h.fits; ok = h.ok; on = h.is ∙ ap (λ (x : FieldList). finishes h.due (take (stated r) r) ++ x) (sym (comes_is _ _ _ h.comes)) })
 
 pub at_identification : (r : List ℕ) → 0 < length (coming last.Head r) → Known last.Head r due.Identification
-at_identification r some = let h = opens last.Head r some in known last.Head r due.Identification h (only (eqb (get_or r 4 0) 1) _ _ h.next)
+at_identification r some = known last.Head r _ _ refl some
 
 pub at_first : (r : List ℕ) → 0 < length (coming last.Identification r) → Known last.Identification r due.Frame
-at_first r some = let h = opens last.Identification r some in known last.Identification r due.Frame h (only (eqb (get_or r 4 0) 3) _ _ h.next)
+at_first r some = known last.Identification r _ _ refl some
 
 module _ (g : Grid) (r : List ℕ) where
   pub at_product : 0 < length (coming (last.Frame g) r) → Known (last.Frame g) r (due.Product g)
-  at_product some = let h = opens (last.Frame g) r some in known (last.Frame g) r (due.Product g) h (only (eqb (get_or r 4 0) 4) _ _ h.next)
+  at_product some = known (last.Frame g) r _ _ refl some
 
   pub at_packing : (p : List ℕ) → 0 < length (coming (last.Product g p) r) → Known (last.Product g p) r (due.Packing g p)
-  at_packing p some = let h = opens (last.Product g p) r some in known (last.Product g p) r (due.Packing g p) h (only (eqb (get_or r 4 0) 5) _ _ h.next)
+  at_packing p some = known (last.Product g p) r _ _ refl some
 
   pub at_bitmap : (p : List ℕ) (k : Packing (List ℕ)) → 0 < length (coming (last.Packing g p k) r) → Known (last.Packing g p k) r (due.Bitmap g p k)
-  at_bitmap p k some = let h = opens (last.Packing g p k) r some in known (last.Packing g p k) r (due.Bitmap g p k) h (only (eqb (get_or r 4 0) 6) _ _ h.next)
+  at_bitmap p k some = known (last.Packing g p k) r _ _ refl some
 
   pub at_data : (p : List ℕ) (k : Packing (List ℕ)) → 0 < length (coming (last.Bitmap g p k) r) → Known (last.Bitmap g p k) r (due.Data g p k)
-  at_data p k some = let h = opens (last.Bitmap g p k) r some in known (last.Bitmap g p k) r (due.Data g p k) h (only (eqb (get_or r 4 0) 7) _ _ h.next)
+  at_data p k some = known (last.Bitmap g p k) r _ _ refl some
 
   -- after section 5 the fields come from section 6 on, where the code has the section and the octets after it
   pub past_packing : (p s after : List ℕ) → 0 < length (coming (last.Product g p) r) → s ≡ take (stated r) r → after ≡ drop (stated r) r → coming (last.Product g p) r ≡ coming (last.Packing g p (packing_of s)) after
@@ -128,10 +116,7 @@ module _ (g : Grid) (r : List ℕ) where
 
   -- a field with a frame section of its own
   pub at_frame : 0 < length (coming (last.Data g) r) → get_or r 4 0 ≡ 3 → Known (last.Data g) r due.Frame
-  at_frame some three =
-      let h = opens (last.Data g) r some in
-      let next : cond (eqb (get_or r 4 0) 3) (Some due.Frame) (cond (eqb (get_or r 4 0) 4) (Some (due.Product g)) None) ≡ Some h.due = h.next in
-      known (last.Data g) r due.Frame h (only true _ _ (sym (cond-true _ _ _ (eq-eqb (get_or r 4 0) 3 three)) ∙ next))
+  at_frame some three = known (last.Data g) r _ true (cond-true _ _ _ (eq-eqb (get_or r 4 0) 3 three)) some
 
 -- a section may be read from another state that it may follow too
 pub again : (l k : Last (List ℕ)) (r : List ℕ) (h : Opens l r) → (Ended k r → ⊥) → follows k (get_or r 4 0) ≡ Some h.due → coming l r ≡ coming k r

@@ -1,5 +1,6 @@
 -- A message that loads: it has a field, and its fields come after section 1.
-use Rattle.std.proofs.Common.{◌≡◌, ℕ, ◌+◌, ◌-◌, ◌<◌, ◌≤◌, Bool, true, false, cond, eqb, List, [], ◌∷◌, length, get_or, take, drop, Some, None, Ok, Err, Option, sym, refl, ap, ◌∙◌, subst, arith, length-append, length-drop, length-take, drop-drop}
+use Rattle.std.proofs.Common.{◌≡◌, ℕ, ◌+◌, ◌-◌, ◌<◌, ◌≤◌, Bool, true, false, cond, eqb, List, [], length, get_or, take, drop, Some, None, Ok, Err, Option, sym, refl, ap, ◌∙◌, subst, arith, length-append, length-drop, length-take, drop-drop}
+use Rattle.std.specs.Option.{option_map}
 use Rattle.std.proofs.lemmas.Bool.{leb-true}
 use Rattle.format.specs.Numbers.{number}
 use Rattle.format.specs.declared.fault.Refusal.{Refusal}
@@ -11,7 +12,7 @@ use Rattle.messages.specs.declared.order.Last.TheVariants as last
 use Rattle.messages.specs.declared.order.Due.{Due}
 use Rattle.messages.specs.declared.order.Due.TheVariants as due
 use Rattle.messages.specs.Messages.{Message, Means, Reads, Outcome, Fields, Ended, head_checks, stated, mark, leaves, finishes, message_of}
-use Rattle.messages.specs.Messages.Reads.{whole, trailing, short, disorder, overlong, flawed, faulty, sound}
+use Rattle.messages.specs.Messages.Reads.{whole, sound}
 use Rattle.messages.specs.Messages.Means.{headless, headed}
 use Rattle.messages.specs.Meaning.{meaning, counted, message_in, fields_in, loaded_as, coming}
 use Rattle.messages.proofs.Agreeing.{some_outcome}
@@ -21,50 +22,26 @@ use Rattle.loader.proofs.Coming.{FieldList, Comes, opens, again, at_identificati
 
 -- a field is begun and not finished, unless section 7 was read last
 abbrev begun : Last (List ℕ) → ℕ
-begun last.Head = 1
-begun last.Identification = 1
-begun (last.Frame g) = 1
-begun (last.Product g p) = 1
-begun (last.Packing g p k) = 1
-begun (last.Bitmap g p k) = 1
 begun (last.Data g) = 0
+begun l = 1
 
 begun_one : (l : Last (List ℕ)) → begun l ≤ 1
-begun_one last.Head = omega arith
-begun_one last.Identification = omega arith
-begun_one (last.Frame g) = omega arith
-begun_one (last.Product g p) = omega arith
-begun_one (last.Packing g p k) = omega arith
-begun_one (last.Bitmap g p k) = omega arith
 begun_one (last.Data g) = omega arith
+begun_one l = omega arith
 
 finished : (d : Due (List ℕ)) (s : List ℕ) → begun (leaves d s) + length (finishes d s) ≡ 1
-finished due.Identification s = refl
-finished due.Frame s = refl
-finished (due.Product g) s = refl
-finished (due.Packing g p) s = refl
-finished (due.Bitmap g p k) s = refl
 finished (due.Data g p k) s = refl
+finished d s = refl
 
 ended_none : (l : Last (List ℕ)) (r : List ℕ) → Ended l r → begun l ≡ 0
-ended_none last.Head r e = absurd e
-ended_none last.Identification r e = absurd e
-ended_none (last.Frame g) r e = absurd e
-ended_none (last.Product g p) r e = absurd e
-ended_none (last.Packing g p k) r e = absurd e
-ended_none (last.Bitmap g p k) r e = absurd e
 ended_none (last.Data g) r e = refl
+ended_none l r e = absurd e
 
 grows : {l : Last (List ℕ)} {p : ℕ} {fs : FieldList} {r : List ℕ} {o : Fields} → Reads l p fs r o → (gs : FieldList) → o ≡ Ok gs → begun l + length fs ≤ length gs
 grows {l} {fs = fs} {r = r} (whole e n) gs q = let z : fs ≡ gs = cc in omega (arith, ended_none l r e, ap length z)
-grows (trailing e n) gs q = let z : ◌≡◌ {A = ℕ} 0 1 = cc in absurd (omega arith)
-grows (short e n) gs q = let z : ◌≡◌ {A = ℕ} 0 1 = cc in absurd (omega arith)
-grows (disorder e n m) gs q = let z : ◌≡◌ {A = ℕ} 0 1 = cc in absurd (omega arith)
-grows (overlong e n m k) gs q = let z : ◌≡◌ {A = ℕ} 0 1 = cc in absurd (omega arith)
-grows (flawed e n m k j) gs q = let z : ◌≡◌ {A = ℕ} 0 1 = cc in absurd (omega arith)
-grows (faulty e n m k j t) gs q = let z : ◌≡◌ {A = ℕ} 0 1 = cc in absurd (omega arith)
 grows {l} {fs = fs} {r = r} (sound {d = d} live long next fits ok text rest) gs q =
     omega (arith, grows rest gs q, begun_one l, finished d (take (stated r) r), length-append fs (finishes d (take (stated r) r)))
+grows h gs q = cc
 
 -- the parts of a message that loads
 pub record Starts (s : List ℕ) (m : Message) : Type 0 where
@@ -79,7 +56,7 @@ at_start g r some = let h = opens last.Identification r some in again last.Ident
   where
     go : (e : Due (List ℕ)) (b : Bool) → cond b (Some due.Frame) None ≡ Some e → cond b (Some due.Frame) (cond (eqb (get_or r 4 0) 4) (Some (due.Product g)) None) ≡ Some e
     go e true q = q
-    go e false q = let z : ◌≡◌ {A = ℕ} 0 1 = cc in absurd (omega arith)
+    go e false q = cc
 
     live : take 4 r ≡ mark → ⊥
     live e =
@@ -88,11 +65,11 @@ at_start g r some = let h = opens last.Identification r some in again last.Ident
         omega (arith, length-take (stated r) r, k.fits, frame_length (take (stated r) r) k.ok)
 
 pub starts : {s : List ℕ} {o : Outcome} → Means s o → (m : Message) → o ≡ Ok m → Starts s m
-starts (headless e) m q = let z : ◌≡◌ {A = ℕ} 0 1 = cc in absurd (omega arith)
+starts (headless e) m q = cc
 starts {s} (headed {o = o} e rest) m q = go o rest q
   where
     go : (o : Fields) → Reads last.Head 16 [] (drop 16 s) o → message_of s o ≡ Ok m → Starts s m
-    go (Err x) h q = let z : ◌≡◌ {A = ℕ} 0 1 = cc in absurd (omega arith)
+    go (Err x) h q = cc
     go (Ok fs) h q =
         let is : record { identification = identification_of (take 21 (drop 16 s)); fields = fs } ≡ m = cc in
         let r : List ℕ = drop 16 s in
@@ -121,56 +98,42 @@ loads_as s m e = go (meaning s) (some_outcome s) e
   where
     go : (o : Outcome) → Means s o → message_in o ≡ Some m → Means s (Ok m)
     go (Ok n) h q = let z : n ≡ m = cc in subst (λ x. Means s (Ok x)) z h
-    go (Err x) h q = let z : ◌≡◌ {A = ℕ} 0 1 = cc in absurd (omega arith)
+    go (Err x) h q = cc
 
 -- a message that was counted, and one that was refused
-pub loads : (s : List ℕ) (n : ℕ) → Ok n ≡ counted (meaning s) → (n ≡ length (fields_in (loaded_as s))) × LoadsAs s (loaded_as s)
+pub loads : (s : List ℕ) (n : ℕ) → Ok n ≡ counted (meaning s) → (option_map (λ m. length m.fields) (loaded_as s) ≡ Some n) × LoadsAs s (loaded_as s)
 unfolding loaded_as
 loads s n e = go (meaning s) (some_outcome s) e
   where
-    go : (o : Outcome) → Means s o → Ok n ≡ counted o → (n ≡ length (fields_in (message_in o))) × LoadsAs s (message_in o)
+    go : (o : Outcome) → Means s o → Ok n ≡ counted o → (option_map (λ m. length m.fields) (message_in o) ≡ Some n) × LoadsAs s (message_in o)
     go (Ok m) h q = (cc, h)
-    go (Err x) h q = let z : ◌≡◌ {A = ℕ} 0 1 = cc in absurd (omega arith)
+    go (Err x) h q = cc
 
 pub refused : (s : List ℕ) (e : Refusal) → Err e ≡ counted (meaning s) → Means s (Err e)
 refused s e h = go (meaning s) (some_outcome s) h
   where
     go : (o : Outcome) → Means s o → Err e ≡ counted o → Means s (Err e)
-    go (Ok m) h q = let z : ◌≡◌ {A = ℕ} 0 1 = cc in absurd (omega arith)
+    go (Ok m) h q = cc
     go (Err x) h q = let y : x ≡ e = cc in subst (λ z. Means s (Err z)) y h
 
--- octets with no field do not load, and octets with a field do
-pub none_loaded : (s : List ℕ) → length (fields_in (loaded_as s)) ≡ 0 → loaded_as s ≡ None
-none_loaded s e = go (loaded_as s) refl e
-  where
-    go : (o : Option Message) → loaded_as s ≡ o → length (fields_in o) ≡ 0 → o ≡ None
-    go None q e = refl
-    go (Some m) q e = absurd (omega (arith, (starts (loads_as s m q) m refl).some))
-
-pub record SomeLoaded (s : List ℕ) : Type 0 where
+-- octets that load as a message of n fields
+pub record Counted (s : List ℕ) (n : ℕ) : Type 0 where
   pub message : Message
   pub is : loaded_as s ≡ Some message
+  pub count : n ≡ length message.fields
   pub starts : Starts s message
 
-pub some_loaded : (s : List ℕ) → 0 < length (fields_in (loaded_as s)) → SomeLoaded s
-some_loaded s e = go (loaded_as s) refl e
+pub counted_as : (s : List ℕ) (n : ℕ) → option_map (λ m. length m.fields) (loaded_as s) ≡ Some n → Counted s n
+counted_as s n e = go (loaded_as s) refl e
   where
-    go : (o : Option Message) → loaded_as s ≡ o → 0 < length (fields_in o) → SomeLoaded s
-    go None q e = absurd (omega arith)
-    go (Some m) q e = record { message = m; is = q; starts = starts (loads_as s m q) m refl }
+    go : (o : Option Message) → loaded_as s ≡ o → option_map (λ m. length m.fields) o ≡ Some n → Counted s n
+    go None q e = cc
+    go (Some m) q e = record { message = m; is = q; count = cc; starts = starts (loads_as s m q) m refl }
 
 pub none_coming : (g : Grid) → coming (last.Data g) [] ≡ []
 unfolding coming
 none_coming g = refl
 
-pub none_in : loaded_as [] ≡ None
-unfolding loaded_as
-none_in = refl
-
-pub no_length : (xs : FieldList) → length xs ≡ 0 → xs ≡ []
-no_length [] e = refl
-no_length (x ∷ xs) e = absurd (omega arith)
-
 -- the fields of octets that load come from place 37 on, whichever grid stands before them
-pub fields_from : (s : List ℕ) (g : Grid) (rest : List ℕ) → 0 < length (fields_in (loaded_as s)) → rest ≡ drop 37 s → fields_in (loaded_as s) ≡ coming (last.Data g) rest
-fields_from s g rest some is = let h = some_loaded s some in ap fields_in h.is ∙ h.starts.comes g ∙ ap (coming (last.Data g)) (sym is)
+pub fields_from : (s : List ℕ) (n : ℕ) (g : Grid) (rest : List ℕ) → option_map (λ m. length m.fields) (loaded_as s) ≡ Some n → rest ≡ drop 37 s → fields_in (loaded_as s) ≡ coming (last.Data g) rest
+fields_from s n g rest known is = let h = counted_as s n known in ap fields_in h.is ∙ h.starts.comes g ∙ ap (coming (last.Data g)) (sym is)

@@ -1,84 +1,55 @@
--- The steps of a reader through a string.
-use Rattle.std.proofs.Common.{◌≡◌, ℕ, suc, ◌+◌, ◌-◌, ◌<◌, ◌≤◌, min, List, [], ◌∷◌, ◌++◌, length, get_or, drop, replicate, sym, ap, ◌∙◌, subst₂, ⊎_elim, add-one, arith, length-append}
+-- The steps of a reader through the cells of a string.
+use Rattle.std.proofs.Common.{◌≡◌, ℕ, suc, ◌+◌, ◌-◌, ◌<◌, min, List, ◌++◌, length, get_or, drop, replicate, ap, ◌∙◌, subst, sym, arith, length-append, length-drop}
 use lib.ListN.{length-replicate}
-use Rattle.std.proofs.lemmas.List.{nil_from_length, get_or_append_left, get_or-append_right, get_or-replicate}
-use Rattle.std.proofs.lemmas.Bool.{cases_lt}
-use Rattle.runs.specs.Runs.{base, leading_digits, digits_value, loaded, Begins}
-use Rattle.runs.proofs.Strings.{leading_level}
-use Rattle.runs.proofs.DigitLoop.{leading_next}
-use Rattle.runs.proofs.LengthLoop.{loaded_from, loaded_over}
-use Rattle.loader.specs.Reading.{Led, Left, Rest, Hand}
+use Rattle.std.proofs.lemmas.List.{drop_min, get_or_append_left, get_or-append_right, get_or-replicate}
+use Rattle.loader.specs.Reading.{Left, Rest, Hand}
 
-pub record Stands (V : ℕ) (s : List ℕ) (n place first end level : ℕ) : Type 0 where
-  pub led : Led V s place
-  pub left : Left V s n place end
-  pub rest : Rest V s place end
-  pub hand : Hand V s first end level
+pub record Stands (cells ahead : List ℕ) (n first end level : ℕ) : Type 0 where
+  pub left : Left ahead n end
+  pub rest : Rest cells ahead end
+  pub hand : Hand cells first end level
 
 -- before the first run
-pub led_none : (V : ℕ) (s : List ℕ) → Begins V s → Led V s 0
-led_none V [] h = absurd h
-led_none V (o ∷ s) h = ap length (leading_level V o s h)
-
-pub stands_none : (V n : ℕ) (s : List ℕ) → Led V s 0 → length (loaded V s) ≡ n → Stands V s n 0 0 0 0
-stands_none V n s led full = record {
-  led = led;
-  left = omega arith;
-  rest = λ k. ap (λ x. get_or (loaded V s) x 0) {y = k} (omega arith);
+pub stands_none : (cells ahead : List ℕ) (n : ℕ) → ahead ≡ cells → length cells ≡ n → Stands cells ahead n 0 0 0
+stands_none cells ahead n all full = record {
+  left = omega (arith, ap length all);
+  rest = λ k. ap (λ x. get_or cells x 0) {y = k} (omega arith) ∙ ap (λ xs. get_or xs k 0) (sym all);
   hand = λ k low high. absurd (omega arith);
 }
 
-module _ {V : ℕ} {s : List ℕ} {n place first end level : ℕ} (k : Stands V s n place first end level) (more : end < n) where
-  pub place_inside : place < length s
-  place_inside =
-      ⊎_elim
-      (λ (h : place < length s). h)
-      (λ (h : length s ≤ place). absurd (omega (arith, ap length (loaded_over V s place h), k.left)))
-      (cases_lt place (length s))
+-- a run's cells, one more than are counted
+abbrev own : ℕ → ℕ → List ℕ
+own more level = replicate (suc more) level
 
-  -- the run there: its cells and its level, the place after it, and the cells from there on
-  abbrev count : ℕ
-  count = suc (digits_value (base V) (leading_digits V (drop (suc place) s)))
+-- one more run, of more than `more` cells
+module _ {cells ahead : List ℕ} {n first end level : ℕ} (after : List ℕ) (k : Stands cells ahead n first end level) (more now : ℕ) (is : ahead ≡ own more now ++ after) where
+  sizes : length ahead ≡ suc more + length after
+  sizes = ap length is ∙ length-append (own more now) after ∙ ap (λ x. x + length after) (length-replicate (suc more) now)
 
-  abbrev own : List ℕ
-  own = replicate count (get_or s place 0)
+  -- the cell j after `end`, as one of the cells ahead
+  on : (j : ℕ) → get_or cells (end + j) 0 ≡ get_or (own more now ++ after) j 0
+  on j = k.rest j ∙ ap (λ l. get_or l j 0) is
 
-  abbrev next : ℕ
-  next = suc place + length (leading_digits V (drop (suc place) s))
-
-  abbrev after : List ℕ
-  after = loaded V (drop next s)
-
-  from : loaded V (drop place s) ≡ own ++ after
-  from = loaded_from V s place place_inside (nil_from_length (leading_digits V (drop place s)) k.led)
-
-  sizes : length (loaded V (drop place s)) ≡ count + length after
-  sizes = ap length from ∙ length-append own after ∙ ap (λ x. x + length after) (length-replicate count (get_or s place 0))
-
-  -- the cell j after `end`, as one of the cells from the place on
-  on : (j : ℕ) → get_or (loaded V s) (end + j) 0 ≡ get_or (own ++ after) j 0
-  on j = k.rest j ∙ ap (λ l. get_or l j 0) from
-
-  passed : Stands V s n next end (end + count) (get_or s place 0)
+  passed : Stands cells after n end (end + suc more) now
   passed = record {
-    led = ap length (leading_next V s (suc place));
     left = omega (arith, k.left, sizes);
     rest = λ j.
-        ap (λ x. get_or (loaded V s) x 0) {y = end + (count + j)} (omega arith)
-        ∙ on (count + j)
-        ∙ get_or-append_right own after count (count + j) 0 (length-replicate count (get_or s place 0)) (omega arith)
+        ap (λ x. get_or cells x 0) {y = end + (suc more + j)} (omega arith)
+        ∙ on (suc more + j)
+        ∙ get_or-append_right (own more now) after (suc more) (suc more + j) 0 (length-replicate (suc more) now) (omega arith)
         ∙ ap (λ x. get_or after x 0) {y = j} (omega arith);
     hand = λ j low high.
-        let inside : j - end < length own = rw (length-replicate count (get_or s place 0)) (omega arith) in
-        ap (λ x. get_or (loaded V s) x 0) {y = end + (j - end)} (omega arith)
+        let inside : j - end < length (own more now) = rw (length-replicate (suc more) now) (omega arith) in
+        ap (λ x. get_or cells x 0) {y = end + (j - end)} (omega arith)
         ∙ on (j - end)
-        ∙ get_or_append_left own after 0 (j - end) inside
-        ∙ get_or-replicate count (j - end) (get_or s place 0) 0 (omega arith);
+        ∙ get_or_append_left (own more now) after 0 (j - end) inside
+        ∙ get_or-replicate (suc more) (j - end) now 0 (omega arith);
   }
 
-  -- one more run, at the length and the place that are read
-  pub stands_more : (cap cells to : ℕ) → n < cap → cells ≡ min (suc (digits_value (base V) (leading_digits V (drop (place + 1) s)))) cap → to ≡ place + 1 + length (leading_digits V (drop (place + 1) s)) → Stands V s n to end (end + cells) (get_or s place 0)
-  stands_more cap cells to small long end_is =
-      let capped = rw add-one at long in
-      let whole : end + count ≡ end + cells = omega (arith, k.left, sizes) in
-      subst₂ (λ (p e : ℕ). Stands V s n p end e (get_or s place 0)) (sym (rw add-one at end_is)) whole passed
+  -- the cells that are told are all of the run's, where there are fewer than the most that are told
+  pub stands_more : (told : ℕ) → n < 4_294_967_296 → told ≡ min (suc more) 4_294_967_296 → Stands cells after n end (end + told) now
+  stands_more told few capped = let whole : end + suc more ≡ end + told = omega (arith, k.left, sizes) in subst (λ e. Stands cells after n end e now) whole passed
+
+-- what is left past some octets is the end of them, as long as it is
+pub is_end : (s r : List ℕ) (k : ℕ) → r ≡ drop k s → r ≡ drop (length s - length r) s
+is_end s r k e = e ∙ sym (drop_min k s) ∙ ap (λ n. drop n s) (omega (arith, length-drop k s, ap length e))

@@ -4,7 +4,7 @@ use Rattle.format.specs.Refusals.{refusal}
 use Rattle.format.specs.declared.fault.Fault.{Fault}
 use Rattle.format.specs.declared.fault.Refusal.{Refusal}
 use Rattle.charts.specs.Pictures.{Picture, Lawful, pictured}
-use Rattle.runs.specs.Runs.{loaded}
+use Rattle.runs.specs.Handed.{cells_in}
 use Rattle.messages.specs.declared.field.Field.{Field}
 use Rattle.messages.specs.Lawful.{levels_of}
 use Rattle.loader.specs.declared.packed.Packed.{Packed}
@@ -13,7 +13,7 @@ abbrev pub field_picture : Field (List ℕ) → Picture
 field_picture f = pictured f.frame.ni f.frame.nj (levels_of f)
 
 abbrev pub packed_picture : Packed → Picture
-packed_picture c = pictured c.size.width c.size.height (loaded c.v c.string.now)
+packed_picture c = pictured c.size.width c.size.height (cells_in c.string)
 
 pub packed_lawful : (c : Packed) → Lawful (packed_picture c)
 packed_lawful c = record { sized = c.size.sized; full = c.full; octets = c.octets }

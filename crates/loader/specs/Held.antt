@@ -1,7 +1,9 @@
 -- What a loader holds and answers.
-use Rattle.std.specs.Prelude.{◌≡◌, ℕ, List, [], ◌∷◌, Some, None, Ok, Err, Option, Result}
+use Rattle.std.specs.Prelude.{◌≡◌, ℕ, List, Some, None, Ok, Err, Option, Result}
 use Rattle.std.specs.Borrow.{Bor}
 use Rattle.std.specs.List.{slice_get}
+use Rattle.std.specs.Option.{option_and_then}
+use Rattle.std.specs.Result.{result_map_both}
 use Rattle.format.specs.Refusals.{refusal, told}
 use Rattle.format.specs.declared.fault.Fault.{Fault}
 use Rattle.format.specs.declared.fault.Layer.TheVariants as layer
@@ -16,7 +18,7 @@ use Rattle.loader.specs.declared.fields.Fields.{Fields}
 
 -- the message that a loader holds, if it holds one, and its fields
 abbrev pub held : Loader → Option Message
-held l = loaded_as l.octets.now
+held l = option_and_then (λ h. loaded_as h.octets.now) l.message
 
 abbrev pub held_fields : Loader → List (Field (List ℕ))
 held_fields l = fields_in (held l)
@@ -48,10 +50,4 @@ itself f = f
 
 -- an answer that holds parts of the octets, as the octets themselves
 abbrev pub held_answer : Result (Field (Bor (List ℕ))) Fault → Result (Field (List ℕ)) Refusal
-held_answer (Ok f) = Ok (held_field f)
-held_answer (Err e) = Err (refusal e)
-
--- a step from field to field: the fields before it, the field handed out, the fields after it
-abbrev pub Stepped : List (Field (List ℕ)) → Option (Field (Bor (List ℕ))) → List (Field (List ℕ)) → Type 0
-Stepped before None after = (before ≡ []) × (after ≡ [])
-Stepped before (Some f) after = before ≡ held_field f ∷ after
+held_answer r = result_map_both held_field refusal r

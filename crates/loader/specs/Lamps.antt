@@ -1,6 +1,7 @@
 -- The lamps that the levels of a field light.
-use Rattle.std.specs.Prelude.{ℕ, suc, ◌*◌, ◌^◌, Bool, List, [], ◌∷◌, map, pos, Some, None, Ok, Err, count_by, Option, Result, int_le}
+use Rattle.std.specs.Prelude.{ℕ, suc, ◌*◌, ◌^◌, Bool, List, [], ◌∷◌, map, pos, Some, None, count_by, Option, Result, int_le}
 use Rattle.std.specs.List.{range_with_len}
+use Rattle.std.specs.Result.{result_map_both}
 use Rattle.format.specs.Refusals.{refusal}
 use Rattle.format.specs.declared.fault.Fault.{Fault}
 use Rattle.format.specs.declared.fault.Refusal.{Refusal}
@@ -32,5 +33,4 @@ lamp_table f = lamps_of lamp_bounds f.packing
 
 -- an answer that is a map, as its table
 abbrev pub map_answer : Result LevelMap Fault → Result (List ℕ) Refusal
-map_answer (Ok map) = Ok map.table
-map_answer (Err e) = Err (refusal e)
+map_answer r = result_map_both (λ m. m.table) refusal r

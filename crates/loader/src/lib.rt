@@ -4,7 +4,4 @@
 pub mod fields;
 pub mod holder;
 pub mod lamps;
-pub mod loading;
 pub mod packed;
-pub mod packed_chart;
-pub mod walking;

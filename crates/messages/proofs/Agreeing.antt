@@ -1,7 +1,8 @@
 -- The rules and the function agree, so the rules give each message one outcome.
 use Rattle.std.proofs.Common.{◌≡◌, ℕ, zero, suc, ◌+◌, ◌-◌, ◌<◌, ◌≤◌, Bool, true, false, cond, eqb, List, [], ◌++◌, length, get_or, take, drop, Some, None, Ok, Err, Decides, Option, Result, sym, refl, ap, ◌∙◌, arith, length-drop, length-take}
 use Rattle.std.specs.Cmp.Lexicographic.{bytes_decides}
-use Rattle.std.proofs.lemmas.Bool.{lt-ltb, le-ltb, cond-true, cond-false, eq-eqb, ne_eqb, eqb-true, eqb-false, leb-true, both_ways}
+use Rattle.std.proofs.lemmas.Bool.{lt-ltb, le-ltb, cond-true, cond-false, eq-eqb, ne_eqb, eqb-true, eqb-false, leb-true, false_from_ne_true}
+use Rattle.std.proofs.lemmas.Bool.Decides.{not_from_Decides}
 use Rattle.format.specs.declared.fault.Layer.TheVariants as layer
 use Rattle.format.specs.declared.fault.Refusal.{Refusal}
 use Rattle.runs.specs.StringFaults as string
@@ -12,26 +13,19 @@ use Rattle.messages.specs.declared.order.Last.{Last}
 use Rattle.messages.specs.declared.order.Last.TheVariants as last
 use Rattle.messages.specs.declared.order.Due.{Due}
 use Rattle.messages.specs.Order.{follows}
-use Rattle.messages.specs.Messages.{Means, Reads, Outcome, Fields, Ended, head_checks, stated, mark, number_of, rules_of, string_fault, leaves, finishes, of_message, message_of}
+use Rattle.messages.specs.Messages.{Means, Reads, Outcome, Fields, Ended, head_checks, stated, mark, section_of, rules_of, string_fault, leaves, finishes, of_message, message_of}
 use Rattle.messages.specs.Messages.Reads.{whole, trailing, short, disorder, overlong, flawed, faulty, sound}
 use Rattle.messages.specs.Messages.Means.{headless, headed}
-use Rattle.messages.specs.Meaning.{Next, then, advance, chosen, ended, onward, read_by, opened, meaning}
+use Rattle.std.specs.Result.{result_and}
+use Rattle.messages.specs.Meaning.{Next, advance, chosen, ended, onward, read_by, opened, meaning}
 use Rattle.messages.specs.Laws.{OneOutcome}
 use Rattle.messages.proofs.Lengths.{five}
 use Rattle.messages.proofs.Following.{Says, says, ended_long}
 use Rattle.messages.proofs.Stepping.{step_is}
 
-never : (r : List ℕ) → Decides false ⊥
-never r = ((λ e. absurd (both_ways false refl e)), λ e. absurd e)
-
 ended_decides : (l : Last (List ℕ)) (r : List ℕ) → Decides (ended l r) (Ended l r)
-ended_decides last.Head r = never r
-ended_decides last.Identification r = never r
-ended_decides (last.Frame g) r = never r
-ended_decides (last.Product g p) r = never r
-ended_decides (last.Packing g p k) r = never r
-ended_decides (last.Bitmap g p k) r = never r
 ended_decides (last.Data g) r = bytes_decides (take 4 r) mark
+ended_decides l r = ((λ e. cc), λ e. absurd e)
 
 -- every message has an outcome: that of the function
 pub total : (k : ℕ) (l : Last (List ℕ)) (p : ℕ) (fs : List (Field (List ℕ))) (r : List ℕ) → length r < k → Reads l p fs r (read_by k l p fs r)
@@ -54,7 +48,7 @@ total (suc k) l p fs r h =
     at_end : ((n : Next) → length n.rest < length r → Reads n.last (p + (length r - length n.rest)) (fs ++ n.made) n.rest (rest (Ok n)))
         → (b : Bool) → ended l r ≡ b → Reads l p fs r (cond b (cond (eqb (length r) 4) (Ok fs) (Err (of_message 5 (p + 4) (length fs)))) (rest (advance l p (length fs) r)))
     at_end ih true q = at_four ((ended_decides l r).0 q) (eqb (length r) 4) refl
-    at_end ih false q = goes ih _ (says l p fs r (λ e. both_ways _ q ((ended_decides l r).1 e)))
+    at_end ih false q = goes ih _ (says l p fs r (not_from_Decides _ (ended_decides l r) q))
 
 -- the outcome by the rules is that of the function
 module _ (l : Last (List ℕ)) (p : ℕ) (fs : List (Field (List ℕ))) (r : List ℕ) (k : ℕ) where
@@ -65,11 +59,7 @@ module _ (l : Last (List ℕ)) (p : ℕ) (fs : List (Field (List ℕ))) (r : Lis
   ending o e q = cond-true _ _ _ ((ended_decides l r).1 e) ∙ q
 
   live_false : (Ended l r → ⊥) → ended l r ≡ false
-  live_false live = go (ended l r) refl
-    where
-      go : (b : Bool) → ended l r ≡ b → b ≡ false
-      go true q = absurd (live ((ended_decides l r).0 q))
-      go false q = refl
+  live_false live = false_from_ne_true _ (λ q. live ((ended_decides l r).0 q))
 
   going : (o : Fields) (x : Result Next Refusal) → (Ended l r → ⊥) → advance l p (length fs) r ≡ x → rest' x ≡ o → read_by (suc k) l p fs r ≡ o
   going o x live e q = cond-false _ _ _ (live_false live) ∙ ap rest' e ∙ q
@@ -80,10 +70,10 @@ module _ (l : Last (List ℕ)) (p : ℕ) (fs : List (Field (List ℕ))) (r : Lis
   -- the step at a section, by the verdicts on its rules and on its string
   judging : (d : Due (List ℕ)) (v : Option Flaw) (w : Option string.Flaw) → 5 ≤ length r → follows l (get_or r 4 0) ≡ Some d → stated r ≤ length r
       → judge (checks_for (rules_of d)) (take (stated r) r) ≡ v → string_fault d (take (stated r) r) ≡ w
-      → advance l p (length fs) r ≡ then (then (judged (layer.Section (number_of d)) p (length fs) v tt) (string.judged (p + 5) (length fs) w)) (Ok (record { last = leaves d (take (stated r) r); made = finishes d (take (stated r) r); rest = drop (stated r) r }))
+      → advance l p (length fs) r ≡ result_and (result_and {T = Unit {0}} (judged (layer.Section (section_of d)) p (length fs) v tt) (string.judged (p + 5) (length fs) w)) (Ok (record { last = leaves d (take (stated r) r); made = finishes d (take (stated r) r); rest = drop (stated r) r }))
   judging d v w long next fits rules text =
       sym (step_is l p (length fs) r d long (sym next) fits)
-      ∙ (λ i. then (then (judged (layer.Section (number_of d)) p (length fs) (rules i) tt) (string.judged (p + 5) (length fs) (text i))) (Ok (record { last = leaves d (take (stated r) r); made = finishes d (take (stated r) r); rest = drop (stated r) r })))
+      ∙ (λ i. result_and (result_and {T = Unit {0}} (judged (layer.Section (section_of d)) p (length fs) (rules i) tt) (string.judged (p + 5) (length fs) (text i))) (Ok (record { last = leaves d (take (stated r) r); made = finishes d (take (stated r) r); rest = drop (stated r) r })))
 
 pub agree : (k : ℕ) {l : Last (List ℕ)} {p : ℕ} {fs : List (Field (List ℕ))} {r : List ℕ} {o : Fields} → Reads l p fs r o → length r < k → read_by k l p fs r ≡ o
 agree zero {l} {p} {fs} {r} h lt = absurd (omega arith)

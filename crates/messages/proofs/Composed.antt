@@ -17,7 +17,8 @@ use Rattle.messages.specs.declared.order.Last.TheVariants as last
 use Rattle.messages.specs.declared.order.Due.{Due}
 use Rattle.messages.specs.declared.order.Due.TheVariants as due
 use Rattle.messages.specs.Order.{follows}
-use Rattle.messages.specs.Messages.{Message, Means, Reads, Outcome, Ended, head_checks, stated, mark, grid_of, number_of, rules_of, string_fault, leaves, finishes}
+use Rattle.format.specs.Sections.{number_of}
+use Rattle.messages.specs.Messages.{Message, Means, Reads, Outcome, Ended, head_checks, stated, mark, grid_of, section_of, rules_of, string_fault, leaves, finishes}
 use Rattle.messages.specs.Messages.Reads.{whole, sound}
 use Rattle.messages.specs.Messages.Means.{headless, headed}
 use Rattle.messages.specs.Content.{ContentLaw}
@@ -37,8 +38,8 @@ said r s rest one is =
 
 -- what loads is a message
 is_message : {s : List ℕ} {o : Outcome} → Means s o → AllByRecursion (λ o. o < 256) s → (m : Message) → o ≡ Ok m → IsMessage s m
-is_message (headless e) octets m q = let z : ◌≡◌ {A = ℕ} 0 1 = cc in absurd (omega arith)
-is_message {s} (headed {o = Err x} e on) octets m q = let z : ◌≡◌ {A = ℕ} 0 1 = cc in absurd (omega arith)
+is_message (headless e) octets m q = cc
+is_message {s} (headed {o = Err x} e on) octets m q = cc
 is_message {s} (headed {o = Ok fs} e on) octets m q =
     let h = take_through on (All-drop (λ o. o < 256) 16 s octets) fs refl in
     let a = h.after in
@@ -61,24 +62,19 @@ abbrev Comes : Last (List ℕ) → List ℕ → List (Field (List ℕ)) → Type
 Comes l r ms = length r ≤ 134217728 → (p : ℕ) (fs : List (Field (List ℕ))) → Reads l p fs r (Ok (fs ++ ms))
 
 ended_mark : (l : Last (List ℕ)) (r : List ℕ) → Ended l r → take 4 r ≡ mark
-ended_mark last.Head r e = absurd e
-ended_mark last.Identification r e = absurd e
-ended_mark (last.Frame g) r e = absurd e
-ended_mark (last.Product g p) r e = absurd e
-ended_mark (last.Packing g p k) r e = absurd e
-ended_mark (last.Bitmap g p k) r e = absurd e
 ended_mark (last.Data g) r e = e
+ended_mark l r e = absurd e
 
 -- a section is read: the end mark, as a length, is more than the octets
-section_comes : (l : Last (List ℕ)) (d : Due (List ℕ)) (s rest : List ℕ) (ms : List (Field (List ℕ))) → follows l (number_of d) ≡ Some d
-    → IsSection (number_of d) (rules_of d) s → string_fault d s ≡ None → Comes (leaves d s) rest ms → Comes l (s ++ rest) (finishes d s ++ ms)
+section_comes : (l : Last (List ℕ)) (d : Due (List ℕ)) (s rest : List ℕ) (ms : List (Field (List ℕ))) → follows l (number_of (section_of d)) ≡ Some d
+    → IsSection (number_of (section_of d)) (rules_of d) s → string_fault d s ≡ None → Comes (leaves d s) rest ms → Comes l (s ++ rest) (finishes d s ++ ms)
 section_comes l d s rest ms next is fine h few p fs =
     let long : 5 ≤ length s = is.long in
     let both : length (s ++ rest) ≡ length s + length rest = length-append s rest in
     let size : stated (s ++ rest) ≡ length s = ap number (take-append-le 4 s rest (omega arith)) ∙ is.states in
     let front : take (stated (s ++ rest)) (s ++ rest) ≡ s = take_at s rest (stated (s ++ rest)) (sym size) in
     let back : drop (stated (s ++ rest)) (s ++ rest) ≡ rest = drop_at s rest (stated (s ++ rest)) (sym size) in
-    let here : get_or (s ++ rest) 4 0 ≡ number_of d = get_or_append_left s rest 0 4 (omega arith) ∙ is.numbered in
+    let here : get_or (s ++ rest) 4 0 ≡ number_of (section_of d) = get_or_append_left s rest 0 4 (omega arith) ∙ is.numbered in
     sound
     (λ e. let big : stated (s ++ rest) ≡ 926365495 = ap number (ended_mark l (s ++ rest) e) in omega arith)
     (omega arith) (ap (follows l) here ∙ next) (omega arith)
@@ -124,7 +120,7 @@ first_come : {g : Option Grid} {s : List ℕ} {fs : List (Field (List ℕ))} →
 first_come (none is made) q some = absurd (omega (arith, ap length made))
 first_come (own three field more is made) q some =
     frame_comes last.Identification _ _ _ _ _ _ _ refl three field is made (fields_come more _ refl (points _ three.keeps))
-first_come (under e field more is made) q some = let z : ◌≡◌ {A = ℕ} 0 1 = cc in absurd (omega arith)
+first_come (under e field more is made) q some = cc
 
 -- a message loads
 loads : (s : List ℕ) (m : Message) → IsMessage s m → Means s (Ok m)

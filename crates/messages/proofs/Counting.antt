@@ -1,7 +1,6 @@
 -- Counting the fields of a message that is read through.
-use Rattle.std.proofs.Common.{◌≡◌, ℕ, ◌+◌, ◌-◌, ◌<◌, ◌≤◌, true, false, List, [], ◌++◌, map, length, drop, is_some, Some, None, Ok, Err, Option, sym, refl, ap, ◌∙◌, arith, length-append, Bor}
+use Rattle.std.proofs.Common.{◌≡◌, ℕ, ◌+◌, ◌-◌, ◌<◌, ◌≤◌, cond, List, [], ◌++◌, map, length, drop, is_some, Some, None, Ok, Err, Option, sym, refl, ap, ◌∙◌, length-append, Bor}
 use Rattle.std.specs.Option.{option_to_list}
-use Rattle.std.proofs.lemmas.Bool.{both_ways}
 use Rattle.format.specs.declared.fault.Refusal.{Refusal}
 use Rattle.sections.specs.Rules.{judge}
 use Rattle.messages.specs.declared.field.Field.{Field}
@@ -20,20 +19,9 @@ pub record Counting (s : List ℕ) (l : Last (List ℕ)) (n : ℕ) (r : List ℕ
   pub is : n ≡ length fields
   pub sofar : Sofar s l fields r
 
-abbrev pub made_of : Option (Field (Bor (List ℕ))) → List (Field (List ℕ))
-made_of o = map held_field (option_to_list o)
-
-pub one_made : (o : Option (Field (Bor (List ℕ)))) → length (made_of o) ≤ 1
-one_made None = omega arith
-one_made (Some f) = omega arith
-
-pub some_made : (o : Option (Field (Bor (List ℕ)))) → is_some o ≡ true → length (made_of o) ≡ 1
-some_made None e = absurd (both_ways false refl e)
-some_made (Some f) e = refl
-
-pub none_made : (o : Option (Field (Bor (List ℕ)))) → is_some o ≡ false → length (made_of o) ≡ 0
-none_made None e = refl
-none_made (Some f) e = absurd (both_ways true e refl)
+pub made_count : (o : Option (Field (Bor (List ℕ)))) → length (map held_field (option_to_list o)) ≡ cond (is_some o) 1 0
+made_count None = refl
+made_count (Some f) = refl
 
 pub start : (s r : List ℕ) → Ok tt ≡ headed_by s (judge head_checks s) → r ≡ drop 16 s → Counting s last.Head 0 r
 start s r h is = record { fields = []; is = refl; sofar = follow.start s r h is }

@@ -12,10 +12,11 @@ use Rattle.messages.specs.declared.order.Last.{Last}
 use Rattle.messages.specs.declared.order.Last.TheVariants as last
 use Rattle.messages.specs.declared.order.Due.{Due}
 use Rattle.messages.specs.Order.{follows}
-use Rattle.messages.specs.Messages.{Means, Reads, Fields, Ended, head_checks, stated, number_of, rules_of, string_fault, leaves, finishes, of_message, message_of}
+use Rattle.messages.specs.Messages.{Means, Reads, Fields, Ended, head_checks, stated, section_of, rules_of, string_fault, leaves, finishes, of_message, message_of}
 use Rattle.messages.specs.Messages.Reads.{whole, trailing, short, disorder, overlong, flawed, faulty, sound}
 use Rattle.messages.specs.Messages.Means.{headless, headed}
-use Rattle.messages.specs.Meaning.{Next, then, advance, chosen, taken}
+use Rattle.std.specs.Result.{result_and}
+use Rattle.messages.specs.Meaning.{Next, advance, chosen, taken}
 use Rattle.messages.proofs.Lengths.{five}
 
 module _ (l : Last (List ℕ)) (p : ℕ) (fs : List (Field (List ℕ))) (r : List ℕ) where
@@ -29,7 +30,7 @@ module _ (l : Last (List ℕ)) (p : ℕ) (fs : List (Field (List ℕ))) (r : Lis
     where
       at_string : (d : Due (List ℕ)) → 5 ≤ length r → follows l (get_or r 4 0) ≡ Some d → stated r ≤ length r → judge (checks_for (rules_of d)) (take (stated r) r) ≡ None
           → (v : Option string.Flaw) → string_fault d (take (stated r) r) ≡ v
-          → Says (then (string.judged (p + 5) (length fs) v) (Ok (record { last = leaves d (take (stated r) r); made = finishes d (take (stated r) r); rest = drop (stated r) r })))
+          → Says (result_and (string.judged (p + 5) (length fs) v) (Ok (record { last = leaves d (take (stated r) r); made = finishes d (take (stated r) r); rest = drop (stated r) r })))
       at_string d long next fits ok None e =
           let most = five d (take (stated r) r) ok in
           let some : 5 ≤ stated r = omega (arith, length-take (stated r) r) in
@@ -39,7 +40,7 @@ module _ (l : Last (List ℕ)) (p : ℕ) (fs : List (Field (List ℕ))) (r : Lis
       at_string d long next fits ok (Some f) e = faulty live long next fits ok e
 
       at_flaw : (d : Due (List ℕ)) → 5 ≤ length r → follows l (get_or r 4 0) ≡ Some d → stated r ≤ length r → (v : Option Flaw) → judge (checks_for (rules_of d)) (take (stated r) r) ≡ v
-          → Says (then (then (judged (layer.Section (number_of d)) p (length fs) v tt) (string.judged (p + 5) (length fs) (string_fault d (take (stated r) r)))) (Ok (record { last = leaves d (take (stated r) r); made = finishes d (take (stated r) r); rest = drop (stated r) r })))
+          → Says (result_and (result_and {T = Unit {0}} (judged (layer.Section (section_of d)) p (length fs) v tt) (string.judged (p + 5) (length fs) (string_fault d (take (stated r) r)))) (Ok (record { last = leaves d (take (stated r) r); made = finishes d (take (stated r) r); rest = drop (stated r) r })))
       at_flaw d long next fits None e = at_string d long next fits e (string_fault d (take (stated r) r)) refl
       at_flaw d long next fits (Some f) e = flawed live long next fits e
 
@@ -71,7 +72,7 @@ pub head_refuses : (s : List ℕ) (e : Refusal) → Err e ≡ headed_by s (judge
 head_refuses s e h = go (judge head_checks s) refl h
   where
     go : (v : Option Flaw) → judge head_checks s ≡ v → Err e ≡ headed_by s v → Means s (Err e)
-    go None q h = let z : ◌≡◌ {A = ℕ} 0 1 = cc in absurd (omega arith)
+    go None q h = cc
     go (Some f) q h =
         let at : f.octet - 1 ≡ 0 + (f.octet - 1) = omega arith in
         let same : of_message f.number (0 + (f.octet - 1)) 0 ≡ e = cc in
@@ -82,7 +83,7 @@ head_passes s h = go (judge head_checks s) h
   where
     go : (v : Option Flaw) → Ok tt ≡ headed_by s v → v ≡ None
     go None h = refl
-    go (Some f) h = let z : ◌≡◌ {A = ℕ} 0 1 = cc in absurd (omega arith)
+    go (Some f) h = cc
 
 pub start : (s r : List ℕ) → Ok tt ≡ headed_by s (judge head_checks s) → r ≡ drop 16 s → Sofar s last.Head [] r
 start s r h is =
@@ -100,13 +101,8 @@ start s r h is =
     }
 
 pub ended_long : (l : Last (List ℕ)) (r : List ℕ) → Ended l r → 4 ≤ length r
-ended_long last.Head r e = absurd e
-ended_long last.Identification r e = absurd e
-ended_long (last.Frame g) r e = absurd e
-ended_long (last.Product g p) r e = absurd e
-ended_long (last.Packing g p k) r e = absurd e
-ended_long (last.Bitmap g p k) r e = absurd e
 ended_long (last.Data g) r e = omega (arith, ap length e, length-take 4 r)
+ended_long l r e = absurd e
 
 module _ {s : List ℕ} {l : Last (List ℕ)} {fs : List (Field (List ℕ))} {r : List ℕ} (h : Sofar s l fs r) where
   abbrev place : ℕ

@@ -1,17 +1,18 @@
 -- What holds of the fields that the rules of reading give.
-use Rattle.std.proofs.Common.{◌≡◌, ℕ, ◌+◌, ◌*◌, ◌≤◌, Bool, true, false, cond, ◌&&◌, eqb, ltb, leb, List, [], ◌∷◌, length, drop, ℤ, IfOk, Some, None, Ok, Err, Option, sym, refl, ◌∙◌, subst, arith, length-drop}
+use Rattle.std.proofs.Common.{◌≡◌, ℕ, ◌+◌, ◌*◌, ◌≤◌, Bool, true, false, cond, ◌&&◌, eqb, ltb, leb, List, length, drop, ℤ, IfOk, Some, None, Ok, Err, sym, refl, ◌∙◌, subst, arith, length-drop}
 use lib.Signed.{le_z, lt_z}
 use Rattle.std.specs.List.{AllByRecursion}
+use Rattle.std.specs.Ordering.{int_eq}
 use Rattle.std.proofs.ByRecursion.{All-append}
-use Rattle.std.proofs.lemmas.Nat.{mul-le}
 use Rattle.std.proofs.lemmas.Int.{ints}
 use Rattle.std.proofs.lemmas.Bool.Decides.{nat_tests}
-use Rattle.std.proofs.lemmas.Bool.{leb-true, eqb-true, lt-ltb, and_parts, and_from}
+use Rattle.std.proofs.lemmas.Option.{cond_some, same_Some}
+use Rattle.std.proofs.lemmas.Bool.{leb-true, eqb-true, lt-ltb, and_from}
+use Rattle.format.specs.Limits.{Sized}
 use Rattle.format.specs.Numbers.{field}
-use Rattle.runs.specs.Runs.{Begins}
-use Rattle.runs.proofs.Faultless.{faultless_length, faultless_begins}
+use Rattle.runs.proofs.Faultless.{faultless_length}
 use Rattle.sections.specs.declared.packing.Packing.{Packing}
-use Rattle.sections.specs.Rules.{judge, checks_for, same_z, latitude_at}
+use Rattle.sections.specs.Rules.{judge, checks_for, latitude_at}
 use Rattle.sections.specs.Sections.{frame_rules, packing_rules, packing_of}
 use Rattle.sections.specs.Values.{values}
 use Rattle.sections.proofs.Firsts.{all_pass}
@@ -24,9 +25,9 @@ use Rattle.messages.specs.declared.order.Due.{Due}
 use Rattle.messages.specs.declared.order.Due.TheVariants as due
 use Rattle.messages.specs.Order.{follows}
 use Rattle.messages.specs.Messages.{Message, Means, Reads, Outcome, Fields, grid_of, rules_of, string_fault, leaves, finishes, message_of}
-use Rattle.messages.specs.Messages.Reads.{whole, trailing, short, disorder, overlong, flawed, faulty, sound}
+use Rattle.messages.specs.Messages.Reads.{whole, sound}
 use Rattle.messages.specs.Messages.Means.{headless, headed}
-use Rattle.messages.specs.Lawful.{Sized, LawfulField, LawfulFields}
+use Rattle.messages.specs.Lawful.{LawfulField, LawfulFields}
 
 -- what a section 3 and a section 5 without a flaw say
 record LawfulGrid (g : Grid) : Type 0 where
@@ -39,11 +40,6 @@ record LawfulPacking (k : Packing (List ℕ)) : Type 0 where
   provided : k.v ≤ length (values k.table)
   valued : length (values k.table) ≤ 252
   scaled : k.scale ≤ 6
-
--- a lawful field, and its string begins with a level
-pub record BegunField (f : Field (List ℕ)) : Type 0 where
-  pub lawful : LawfulField f
-  pub begins : Begins f.packing.v f.string
 
 -- what holds of the frame and the packing at hand, after the section just read and before the one that is due
 abbrev LastLawful : Last (List ℕ) → Type 0
@@ -63,32 +59,23 @@ DueLawful (due.Packing g p) = LawfulGrid g
 DueLawful (due.Bitmap g p k) = LawfulGrid g × LawfulPacking k
 DueLawful (due.Data g p k) = LawfulGrid g × LawfulPacking k
 
--- what a test finds has a property, if what it finds where it is true has it, and what it finds where it is false
-pub pick : {X : Type 0} (b : Bool) (x y : X) (o : Option X) → cond b (Some x) o ≡ Some y → (P : X → Type 0) → P x → (o ≡ Some y → P y) → P y
-pick true x y o e P h k = let q : x ≡ y = cc in subst P q h
-pick false x y o e P h k = k e
-
-pub nothing : {X : Type 0} (y : X) (P : X → Type 0) → None ≡ Some y → P y
-nothing y P e = let z : ◌≡◌ {A = ℕ} 0 1 = cc in absurd (omega arith)
-
 due_lawful : (l : Last (List ℕ)) (n : ℕ) (d : Due (List ℕ)) → follows l n ≡ Some d → LastLawful l → DueLawful d
-due_lawful last.Head n d e h = pick (eqb n 1) _ d _ e DueLawful tt (nothing d DueLawful)
-due_lawful last.Identification n d e h = pick (eqb n 3) _ d _ e DueLawful tt (nothing d DueLawful)
-due_lawful (last.Frame g) n d e h = pick (eqb n 4) _ d _ e DueLawful h (nothing d DueLawful)
-due_lawful (last.Product g p) n d e h = pick (eqb n 5) _ d _ e DueLawful h (nothing d DueLawful)
-due_lawful (last.Packing g p k) n d e h = pick (eqb n 6) _ d _ e DueLawful h (nothing d DueLawful)
-due_lawful (last.Bitmap g p k) n d e h = pick (eqb n 7) _ d _ e DueLawful h (nothing d DueLawful)
-due_lawful (last.Data g) n d e h = pick (eqb n 3) _ d _ e DueLawful tt (λ k. pick (eqb n 4) _ d _ k DueLawful h (nothing d DueLawful))
+due_lawful (last.Data g) n d e h = go (eqb n 3) e
+  where
+    go : (b : Bool) → cond b (Some due.Frame) (follows (last.Frame g) n) ≡ Some d → DueLawful d
+    go true e = subst DueLawful (same_Some _ _ e) tt
+    go false e = subst DueLawful (cond_some _ _ d e).1 h
+due_lawful l n d e h = subst DueLawful (cond_some _ _ d e).1 h
 
 -- the last row is the first or south of it, and the last column the first or east of it
-south_le : (one : Bool) (a b : ℤ) → cond one (same_z a b) (lt_z a b) ≡ true → le_z a b ≡ true
+south_le : (one : Bool) (a b : ℤ) → cond one (int_eq a b) (lt_z a b) ≡ true → le_z a b ≡ true
 south_le one a b e = grind (arith, ints, nat_tests)
 
 east_le : (one : Bool) (a b : ℕ) → cond one (eqb b a) (ltb a b) ≡ true → leb a b ≡ true
 east_le one a b e = grind (arith, nat_tests)
 
 within : (low high n : ℕ) → (leb low n && leb n high) ≡ true → (low ≤ n) × (n ≤ high)
-within low high n e = let p = and_parts (leb low n) (leb n high) e in (leb-true low n p.0, leb-true n high p.1)
+within low high n e = grind (arith, nat_tests)
 
 frame_lawful : (s : List ℕ) → judge (checks_for frame_rules) s ≡ None → LawfulGrid (grid_of s)
 unfolding frame_rules
@@ -121,64 +108,43 @@ packing_lawful n s e =
     }
 
 last_lawful : (d : Due (List ℕ)) (s : List ℕ) → judge (checks_for (rules_of d)) s ≡ None → DueLawful d → LastLawful (leaves d s)
-last_lawful due.Identification s e h = tt
 last_lawful due.Frame s e h = frame_lawful s e
-last_lawful (due.Product g) s e h = h
 last_lawful (due.Packing g p) s e h = (h, packing_lawful g.points s e)
-last_lawful (due.Bitmap g p k) s e h = h
 last_lawful (due.Data g p k) s e h = h.0
+last_lawful d s e h = h
 
-made_begun : (d : Due (List ℕ)) (s : List ℕ) → string_fault d s ≡ None → DueLawful d → AllByRecursion BegunField (finishes d s)
-made_begun due.Identification s e h = tt
-made_begun due.Frame s e h = tt
-made_begun (due.Product g) s e h = tt
-made_begun (due.Packing g p) s e h = tt
-made_begun (due.Bitmap g p k) s e h = tt
-made_begun (due.Data g p k) s e (grid, packing) = (
+made_lawful : (d : Due (List ℕ)) (s : List ℕ) → string_fault d s ≡ None → DueLawful d → AllByRecursion LawfulField (finishes d s)
+made_lawful (due.Data g p k) s e (grid, packing) = (
   record {
-    lawful = record {
-      sized = grid.sized;
-      cells = faultless_length k.v g.points _ e ∙ grid.pointed;
-      placed = λ column row a b. and_from _ _ (lt-ltb _ _ a) (and_from _ _ (lt-ltb _ _ b) (and_from _ _ grid.south grid.east));
-      provided = packing.provided;
-      valued = packing.valued;
-      scaled = packing.scaled;
-    };
-    begins = faultless_begins k.v g.points _ (omega (arith, grid.pointed, grid.sized.wide, mul-le 1 1 g.frame.ni g.frame.nj grid.sized.wide grid.sized.high)) e;
+    sized = grid.sized;
+    cells = faultless_length k.v g.points _ e ∙ grid.pointed;
+    placed = λ column row a b. and_from _ _ (lt-ltb _ _ a) (and_from _ _ (lt-ltb _ _ b) (and_from _ _ grid.south grid.east));
+    provided = packing.provided;
+    valued = packing.valued;
+    scaled = packing.scaled;
   },
   tt,
 )
+made_lawful d s e h = tt
 
-reads_begun : {l : Last (List ℕ)} {p : ℕ} {fs : List (Field (List ℕ))} {r : List ℕ} {o : Fields} → Reads l p fs r o
-    → LastLawful l → AllByRecursion BegunField fs → IfOk o (AllByRecursion BegunField)
-reads_begun (whole e n) h all = all
-reads_begun (trailing e n) h all = tt
-reads_begun (short e n) h all = tt
-reads_begun (disorder e n m) h all = tt
-reads_begun (overlong e n m k) h all = tt
-reads_begun (flawed e n m k j) h all = tt
-reads_begun (faulty e n m k j t) h all = tt
-reads_begun {l} {fs = fs} (sound {d = d} live long next fits ok text on) h all =
+reads_lawful : {l : Last (List ℕ)} {p : ℕ} {fs : List (Field (List ℕ))} {r : List ℕ} {o : Fields} → Reads l p fs r o
+    → LastLawful l → AllByRecursion LawfulField fs → IfOk o (AllByRecursion LawfulField)
+reads_lawful (whole e n) h all = all
+reads_lawful {l} {fs = fs} (sound {d = d} live long next fits ok text on) h all =
     let due = due_lawful l _ d next h in
-    reads_begun on (last_lawful d _ ok due) (All-append BegunField fs _ all (made_begun d _ text due))
+    reads_lawful on (last_lawful d _ ok due) (All-append LawfulField fs _ all (made_lawful d _ text due))
+reads_lawful h g all = tt
 
-outcome_begun : {s : List ℕ} {o : Outcome} → Means s o → IfOk o (λ m. AllByRecursion BegunField m.fields)
-outcome_begun (headless e) = tt
-outcome_begun {s} (headed {o = o} e on) = go o (reads_begun on tt tt)
+outcome_lawful : {s : List ℕ} {o : Outcome} → Means s o → IfOk o (λ m. AllByRecursion LawfulField m.fields)
+outcome_lawful (headless e) = tt
+outcome_lawful {s} (headed {o = o} e on) = go o (reads_lawful on tt tt)
   where
-    go : (o : Fields) → IfOk o (AllByRecursion BegunField) → IfOk (message_of s o) (λ m. AllByRecursion BegunField m.fields)
+    go : (o : Fields) → IfOk o (AllByRecursion LawfulField) → IfOk (message_of s o) (λ m. AllByRecursion LawfulField m.fields)
     go (Ok fs) all = all
     go (Err e) all = tt
 
-pub means_begun : {s : List ℕ} {o : Outcome} → Means s o → (m : Message) → o ≡ Ok m → AllByRecursion BegunField m.fields
-means_begun h m e = subst (λ o. IfOk o (λ m. AllByRecursion BegunField m.fields)) e (outcome_begun h)
-
-pub begun_lawful : (fs : List (Field (List ℕ))) → AllByRecursion BegunField fs → AllByRecursion LawfulField fs
-begun_lawful [] h = tt
-begun_lawful (f ∷ fs) h = (h.0.lawful, begun_lawful fs h.1)
-
 pub means_lawful : {s : List ℕ} {o : Outcome} → Means s o → (m : Message) → o ≡ Ok m → AllByRecursion LawfulField m.fields
-means_lawful h m e = begun_lawful m.fields (means_begun h m e)
+means_lawful h m e = subst (λ o. IfOk o (λ m. AllByRecursion LawfulField m.fields)) e (outcome_lawful h)
 
 pub lawful_fields : LawfulFields
 lawful_fields s m h = means_lawful h m refl

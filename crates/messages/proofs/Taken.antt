@@ -19,7 +19,7 @@ use Rattle.messages.specs.declared.order.Last.TheVariants as last
 use Rattle.messages.specs.declared.order.Due.{Due}
 use Rattle.messages.specs.Order.{follows}
 use Rattle.messages.specs.Messages.{Reads, Fields, Ended, stated, mark, grid_of, rules_of, string_fault, leaves, finishes}
-use Rattle.messages.specs.Messages.Reads.{whole, trailing, short, disorder, overlong, flawed, faulty, sound}
+use Rattle.messages.specs.Messages.Reads.{whole, sound}
 use Rattle.messages.specs.Composition.{IsSection, IsField, AreFields}
 use Rattle.messages.specs.Composition.AreFields.{none, own, under}
 use Rattle.messages.proofs.Lengths.{five}
@@ -149,7 +149,7 @@ module _ (s rest : List ℕ) (n : ℕ) (more : List (Field (List ℕ))) (long : 
   pick false x d o l e h k = k e
 
   only : (k : ℕ) (x d : Due (List ℕ)) (l : Last (List ℕ)) → cond (eqb n k) (Some x) None ≡ Some d → (eqb n k ≡ true → Adds l x) → Adds l d
-  only k x d l e h = pick (eqb n k) x d None l e h (λ e. let z : ◌≡◌ {A = ℕ} 0 1 = cc in absurd (omega arith))
+  only k x d l e h = pick (eqb n k) x d None l e h (λ e. cc)
 
   adds : (l : Last (List ℕ)) (d : Due (List ℕ)) → follows l n ≡ Some d → Adds l d
   adds last.Head d e = only 1 _ d last.Head e (λ t ok fine h. led 1 _ _ t ok h)
@@ -177,13 +177,8 @@ module _ (s rest : List ℕ) (n : ℕ) (more : List (Field (List ℕ))) (long : 
       }))
 
 at_end : (l : Last (List ℕ)) (r : List ℕ) → Ended l r → length r ≡ 4 → After l [] r
-at_end last.Head r e n = absurd e
-at_end last.Identification r e n = absurd e
-at_end (last.Frame g) r e n = absurd e
-at_end (last.Product g p) r e n = absurd e
-at_end (last.Packing g p k) r e n = absurd e
-at_end (last.Bitmap g p k) r e n = absurd e
 at_end (last.Data g) r e n = λ some. record { body = []; octets = sym (take_all 4 r (omega arith)) ∙ e; are = none refl refl }
+at_end l r e n = absurd e
 
 -- what is read through adds fields, and is made of sections
 pub record Taken (l : Last (List ℕ)) (r : List ℕ) (fs gs : List (Field (List ℕ))) : Type 0 where
@@ -196,12 +191,6 @@ pub take_through : {l : Last (List ℕ)} {p : ℕ} {fs : List (Field (List ℕ))
 take_through {l} {fs = fs} {r = r} (whole e n) octets gs q =
     let z : fs ≡ gs = cc in
     record { more = []; is = sym z ∙ sym (append-nil fs); after = at_end l r e n }
-take_through (trailing e n) octets gs q = let z : ◌≡◌ {A = ℕ} 0 1 = cc in absurd (omega arith)
-take_through (short e n) octets gs q = let z : ◌≡◌ {A = ℕ} 0 1 = cc in absurd (omega arith)
-take_through (disorder e n m) octets gs q = let z : ◌≡◌ {A = ℕ} 0 1 = cc in absurd (omega arith)
-take_through (overlong e n m k) octets gs q = let z : ◌≡◌ {A = ℕ} 0 1 = cc in absurd (omega arith)
-take_through (flawed e n m k j) octets gs q = let z : ◌≡◌ {A = ℕ} 0 1 = cc in absurd (omega arith)
-take_through (faulty e n m k j t) octets gs q = let z : ◌≡◌ {A = ℕ} 0 1 = cc in absurd (omega arith)
 take_through {l} {fs = fs} {r = r} (sound {d = d} live long next fits ok fine on) octets gs q =
     let s : List ℕ = take (stated r) r in
     let h = take_through on (All-drop (λ o. o < 256) (stated r) r octets) gs q in
@@ -215,3 +204,4 @@ take_through {l} {fs = fs} {r = r} (sound {d = d} live long next fits ok fine on
       after = subst (After l (finishes d s ++ h.more)) (take-append-drop (stated r) r)
           (adds s (drop (stated r) r) (get_or r 4 0) h.more most states here (All-take (λ o. o < 256) (stated r) r octets) l d next ok fine h.after);
     }
+take_through h octets gs q = cc

@@ -1,6 +1,7 @@
 -- What holds of each field of a message that loads.
 use Rattle.std.specs.Prelude.{◌≡◌, ℕ, ◌*◌, ◌<◌, ◌≤◌, true, List, length, Ok}
 use Rattle.std.specs.List.{AllByRecursion}
+use Rattle.format.specs.Limits.{Sized}
 use Rattle.runs.specs.Runs.{loaded}
 use Rattle.sections.specs.Positions.{covers}
 use Rattle.sections.specs.Values.{values}
@@ -10,14 +11,6 @@ use Rattle.messages.specs.Messages.{Message, Means}
 -- the levels of a field's cells, row by row
 abbrev pub levels_of : Field (List ℕ) → List ℕ
 levels_of f = loaded f.packing.v f.string
-
--- a width and a height within their limits
-pub record Sized (width height : ℕ) : Type 0 where
-  pub wide : 1 ≤ width
-  pub width_limit : width ≤ 16384
-  pub high : 1 ≤ height
-  pub height_limit : height ≤ 16384
-  pub cells_limit : width * height ≤ 33554432
 
 -- its frame is within the limits, each of its cells has a level and a position, and its highest levels are within theirs
 pub record LawfulField (f : Field (List ℕ)) : Type 0 where

@@ -1,17 +1,17 @@
 -- The outcome of a message as a function of its octets, step by step: the rules give the same outcome, and no other.
-use Rattle.std.specs.Prelude.{ℕ, zero, suc, ◌+◌, ◌-◌, Bool, false, cond, List, [], ◌++◌, length, take, drop, Some, None, Ok, Err, Option, Result, ◌==◌, nat_lt, slice_index}
+use Rattle.std.specs.Prelude.{ℕ, zero, suc, ◌+◌, ◌-◌, Bool, false, if◌then◌else◌, List, [], ◌++◌, length, take, drop, Some, None, Ok, Err, Option, Result, ◌==◌, nat_lt, slice_index}
+use Rattle.std.specs.Result.{result_and}
 use Rattle.std.specs.Str.{bytes_eq}
 use Rattle.format.specs.declared.fault.Layer.TheVariants as layer
 use Rattle.format.specs.declared.fault.Refusal.{Refusal}
 use Rattle.runs.specs.StringFaults as string
 use Rattle.sections.specs.Rules.{Flaw, judge, judged, checks_for}
-use Rattle.sections.specs.Sections.{data_rules, content}
 use Rattle.messages.specs.declared.field.Field.{Field}
 use Rattle.messages.specs.declared.order.Last.{Last}
 use Rattle.messages.specs.declared.order.Last.TheVariants as last
 use Rattle.messages.specs.declared.order.Due.{Due}
 use Rattle.messages.specs.Order.{follows}
-use Rattle.messages.specs.Messages.{Message, Outcome, Fields, head_checks, stated, mark, number_of, rules_of, string_fault, leaves, finishes, of_message, message_of}
+use Rattle.messages.specs.Messages.{Message, Outcome, Fields, head_checks, stated, mark, section_of, rules_of, string_fault, leaves, finishes, of_message, message_of}
 
 -- what one section leaves: the section just read, the field that it finishes, and the octets after it
 pub record Next : Type 0 where
@@ -19,33 +19,24 @@ pub record Next : Type 0 where
   pub made : List (Field (List ℕ))
   pub rest : List ℕ
 
--- a second answer, if the first is no refusal
-abbrev pub then : {X : Type 0} → Result (Unit {0}) Refusal → Result X Refusal → Result X Refusal
-then (Ok _) next = next
-then (Err e) next = Err e
-
--- the verdict on section 7 for a number of cells: its rules, and then its string
-abbrev pub data_verdict : ℕ → ℕ → ℕ → ℕ → List ℕ → Result (Unit {0}) Refusal
-data_verdict v cells p n s = then (judged (layer.Section 7) p n (judge (checks_for data_rules) s) tt) (string.judged (p + 5) n (string.fault v cells (content s)))
-
 -- the verdict on a section's rules, and then on its string
 abbrev pub verdict : Due (List ℕ) → ℕ → ℕ → List ℕ → Result (Unit {0}) Refusal
-verdict d p n s = then (judged (layer.Section (number_of d)) p n (judge (checks_for (rules_of d)) s) tt) (string.judged (p + 5) n (string_fault d s))
+verdict d p n s = result_and {T = Unit {0}} (judged (layer.Section (section_of d)) p n (judge (checks_for (rules_of d)) s) tt) (string.judged (p + 5) n (string_fault d s))
 
 -- what a section leaves that keeps its rules
 abbrev pub next_of : Due (List ℕ) → List ℕ → List ℕ → Next
 next_of d s after = record { last = leaves d s; made = finishes d s; rest = after }
 
 abbrev pub taken : Due (List ℕ) → ℕ → ℕ → List ℕ → List ℕ → Result Next Refusal
-taken d p n s after = then (verdict d p n s) (Ok (next_of d s after))
+taken d p n s after = result_and (verdict d p n s) (Ok (next_of d s after))
 
 abbrev pub chosen : Option (Due (List ℕ)) → ℕ → ℕ → List ℕ → Result Next Refusal
 chosen None p n r = Err (of_message 4 (p + 4) n)
-chosen (Some d) p n r = cond (nat_lt (length r) (stated r)) (Err (of_message 1 p n)) (taken d p n (take (stated r) r) (drop (stated r) r))
+chosen (Some d) p n r = if nat_lt (length r) (stated r) then Err (of_message 1 p n) else taken d p n (take (stated r) r) (drop (stated r) r)
 
 -- one section, where no end mark stands
 abbrev pub advance : Last (List ℕ) → ℕ → ℕ → List ℕ → Result Next Refusal
-advance l p n r = cond (nat_lt (length r) 5) (Err (of_message 1 p n)) (chosen (follows l (slice_index r 4)) p n r)
+advance l p n r = if nat_lt (length r) 5 then Err (of_message 1 p n) else chosen (follows l (slice_index r 4)) p n r
 
 -- whether the end mark stands here
 abbrev pub ended : Last (List ℕ) → List ℕ → Bool
@@ -66,7 +57,7 @@ abbrev pub read_by : ℕ → Last (List ℕ) → ℕ → List (Field (List ℕ))
 read_by zero l p fs r = Err (of_message 1 p (length fs))
 read_by (suc k) l p fs r =
     let on = onward (λ n. read_by k n.last (p + (length r - length n.rest)) (fs ++ n.made) n.rest) (advance l p (length fs) r) in
-    cond (ended l r) (cond (length r == 4) (Ok fs) (Err (of_message 5 (p + 4) (length fs)))) on
+    if ended l r then if length r == 4 then Ok fs else Err (of_message 5 (p + 4) (length fs)) else on
 
 -- the verdict on section 0, and then the sections after it
 abbrev pub opened : List ℕ → Option Flaw → Outcome

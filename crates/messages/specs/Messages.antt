@@ -2,13 +2,16 @@
 use Rattle.std.specs.Prelude.{◌≡◌, ℕ, ◌+◌, ◌-◌, ◌<◌, ◌≤◌, List, [], ◌∷◌, ◌++◌, length, take, drop, Some, None, Ok, Err, Option, Result, nat_eq, nat_le, slice_index}
 use Rattle.format.specs.Numbers.{number, field}
 use Rattle.format.specs.Refusals.{told}
+use Rattle.format.specs.declared.section.Section.{Section}
+use Rattle.format.specs.declared.section.Section.TheVariants as section
 use Rattle.format.specs.declared.fault.Layer.TheVariants as layer
 use Rattle.format.specs.declared.fault.Refusal.{Refusal}
 use Rattle.runs.specs.StringFaults as string
 use Rattle.sections.specs.declared.identification.Identification.{Identification}
 use Rattle.sections.specs.declared.rules.Rule.{Rule}
 use Rattle.sections.specs.Rules.{Check, Flaw, check, judge, checks_for}
-use Rattle.sections.specs.Sections.{identification_rules, identification_of, frame_rules, frame_of, product_rules, packing_rules, packing_of, bitmap_rules, data_rules, content}
+use Rattle.sections.specs.SectionRules as tables
+use Rattle.sections.specs.Sections.{identification_of, frame_of, packing_of, content}
 use Rattle.messages.specs.declared.field.Field.{Field}
 use Rattle.messages.specs.declared.field.Grid.{Grid}
 use Rattle.messages.specs.declared.order.Last.{Last}
@@ -60,22 +63,26 @@ Ended (last.Data g) r = take 4 r ≡ mark
 abbrev pub grid_of : List ℕ → Grid
 grid_of s = record { frame = frame_of s; points = field s 7 4 }
 
--- the number and the rules of a section that is due
-abbrev pub number_of : {P : Type 0} → Due P → ℕ
-number_of due.Identification = 1
-number_of due.Frame = 3
-number_of (due.Product g) = 4
-number_of (due.Packing g p) = 5
-number_of (due.Bitmap g p k) = 6
-number_of (due.Data g p k) = 7
+-- which section is due
+abbrev pub section_of : {P : Type 0} → Due P → Section
+section_of due.Identification = section.Identification
+section_of due.Frame = section.Frame
+section_of (due.Product g) = section.Product
+section_of (due.Packing g p) = section.Packing
+section_of (due.Bitmap g p k) = section.Bitmap
+section_of (due.Data g p k) = section.Data
+
+-- the points of the frame that it stands under: 0 before the first
+abbrev pub points_of : {P : Type 0} → Due P → ℕ
+points_of due.Identification = 0
+points_of due.Frame = 0
+points_of (due.Product g) = g.points
+points_of (due.Packing g p) = g.points
+points_of (due.Bitmap g p k) = g.points
+points_of (due.Data g p k) = g.points
 
 abbrev pub rules_of : {P : Type 0} → Due P → List Rule
-rules_of due.Identification = identification_rules
-rules_of due.Frame = frame_rules
-rules_of (due.Product g) = product_rules
-rules_of (due.Packing g p) = packing_rules g.points
-rules_of (due.Bitmap g p k) = bitmap_rules
-rules_of (due.Data g p k) = data_rules
+rules_of d = tables.rules_of (section_of d) (points_of d)
 
 -- the first fault of a section's string, for as many cells as the frame has points
 abbrev pub string_fault : Due (List ℕ) → List ℕ → Option string.Flaw
@@ -112,8 +119,8 @@ Fields = Result (List (Field (List ℕ))) Refusal
 abbrev pub of_message : ℕ → ℕ → ℕ → Refusal
 of_message n place fields = told n layer.Message place fields 0
 
-abbrev pub of_section : ℕ → Flaw → ℕ → ℕ → Refusal
-of_section section f place fields = told f.number (layer.Section section) (place + (f.octet - 1)) fields 0
+abbrev pub of_section : Section → Flaw → ℕ → ℕ → Refusal
+of_section s f place fields = told f.number (layer.Section s) (place + (f.octet - 1)) fields 0
 
 abbrev pub of_string : string.Flaw → ℕ → ℕ → Refusal
 of_string f place fields = told f.number layer.String (place + f.place) fields f.cells
@@ -134,7 +141,7 @@ pub data Reads : Last (List ℕ) → ℕ → List (Field (List ℕ)) → List �
       → (Ended l r → ⊥) → 5 ≤ length r → follows l (slice_index r 4) ≡ Some d → length r < stated r → Reads l p fs r (Err (of_message 1 p (length fs)))
   flawed : {l : Last (List ℕ)} {p : ℕ} {fs : List (Field (List ℕ))} {r : List ℕ} {d : Due (List ℕ)} {f : Flaw}
       → (Ended l r → ⊥) → 5 ≤ length r → follows l (slice_index r 4) ≡ Some d → stated r ≤ length r
-      → judge (checks_for (rules_of d)) (take (stated r) r) ≡ Some f → Reads l p fs r (Err (of_section (number_of d) f p (length fs)))
+      → judge (checks_for (rules_of d)) (take (stated r) r) ≡ Some f → Reads l p fs r (Err (of_section (section_of d) f p (length fs)))
   faulty : {l : Last (List ℕ)} {p : ℕ} {fs : List (Field (List ℕ))} {r : List ℕ} {d : Due (List ℕ)} {f : string.Flaw}
       → (Ended l r → ⊥) → 5 ≤ length r → follows l (slice_index r 4) ≡ Some d → stated r ≤ length r
       → judge (checks_for (rules_of d)) (take (stated r) r) ≡ None → string_fault d (take (stated r) r) ≡ Some f

@@ -1,5 +1,5 @@
 -- Which section may follow which.
-use Rattle.std.specs.Prelude.{ℕ, cond, List, Some, None, Option, ◌==◌}
+use Rattle.std.specs.Prelude.{ℕ, if◌then◌else◌, List, Some, None, Option, ◌==◌}
 use Rattle.std.specs.Borrow.{Bor}
 use Rattle.sections.specs.Sections.{held_packing}
 use Rattle.messages.specs.declared.field.Field.{Field}
@@ -10,13 +10,13 @@ use Rattle.messages.specs.declared.order.Due.TheVariants as due
 
 -- which section a number announces after the section just read: 1 first, then 3, 4, 5, 6, 7, and after a 7 a 3 or a 4
 abbrev pub follows : {P : Type 0} → Last P → ℕ → Option (Due P)
-follows last.Head n = cond (n == 1) (Some due.Identification) None
-follows last.Identification n = cond (n == 3) (Some due.Frame) None
-follows (last.Frame g) n = cond (n == 4) (Some (due.Product g)) None
-follows (last.Product g p) n = cond (n == 5) (Some (due.Packing g p)) None
-follows (last.Packing g p k) n = cond (n == 6) (Some (due.Bitmap g p k)) None
-follows (last.Bitmap g p k) n = cond (n == 7) (Some (due.Data g p k)) None
-follows (last.Data g) n = cond (n == 3) (Some due.Frame) (cond (n == 4) (Some (due.Product g)) None)
+follows last.Head n = if n == 1 then Some due.Identification else None
+follows last.Identification n = if n == 3 then Some due.Frame else None
+follows (last.Frame g) n = if n == 4 then Some (due.Product g) else None
+follows (last.Product g p) n = if n == 5 then Some (due.Packing g p) else None
+follows (last.Packing g p k) n = if n == 6 then Some (due.Bitmap g p k) else None
+follows (last.Bitmap g p k) n = if n == 7 then Some (due.Data g p k) else None
+follows (last.Data g) n = if n == 3 then Some due.Frame else if n == 4 then Some (due.Product g) else None
 
 -- what the code holds as parts of the octets, as the octets themselves
 abbrev pub held_last : Last (Bor (List ℕ)) → Last (List ℕ)

@@ -1,6 +1,7 @@
 -- What a step of the code holds, as octets.
-use Rattle.std.specs.Prelude.{map, Ok, Err, Result}
+use Rattle.std.specs.Prelude.{map, Result}
 use Rattle.std.specs.Option.{option_to_list}
+use Rattle.std.specs.Result.{result_map_both}
 use Rattle.format.specs.Refusals.{refusal}
 use Rattle.format.specs.declared.fault.Fault.{Fault}
 use Rattle.format.specs.declared.fault.Refusal.{Refusal}
@@ -12,5 +13,4 @@ abbrev pub held_step : Step → Next
 held_step st = record { last = held_last st.last; made = map held_field (option_to_list st.made); rest = st.rest.now }
 
 abbrev pub held_next : Result Step Fault → Result Next Refusal
-held_next (Ok st) = Ok (held_step st)
-held_next (Err e) = Err (refusal e)
+held_next r = result_map_both held_step refusal r

@@ -3,6 +3,7 @@ ghost use Rattle.std.specs.Prelude.{◌≡◌};
 ghost use Rattle.messages.specs.Messages.{grid_of};
 
 use format::numbers::field;
+use runs::reading::RunString;
 use sections::frame::{Frame, frame_of};
 use sections::packing::Packing;
 
@@ -19,13 +20,27 @@ pub struct Field<P> {
     pub string: P,
 }
 
+impl<'a> Field<&'a [u8]> {
+    /// The run string of its levels, with V.
+    pub fn run_string(&self) -> RunString<'a>
+        ensures octets { result.octets.now ≡ self.now.string.now }
+        ensures v { result.v ≡ self.now.packing.v }
+    {
+        RunString {
+            octets: self.string,
+            v: self.packing.v,
+        }
+    }
+}
+
 /// The latest frame, and the points that section 3 states for it.
-#[derive(Clone, Copy)]
+#[derive(Clone, Copy, PartialEq, Eq, Debug)]
 pub struct Grid {
     pub frame: Frame,
     pub points: u32,
 }
 
+// no `From<&[u8]>`: that would say it of any octets, and this names the section
 /// The frame that section 3 says, and the points that it states.
 pub fn grid_of(section: &[u8]) -> Grid
     ensures { result ≡ grid_of section.now }

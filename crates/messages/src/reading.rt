@@ -1,11 +1,11 @@
 //! A whole message, section by section.
-ghost use Rattle.std.specs.Prelude.{◌≡◌, ◌≤◌, Decides};
+ghost use Rattle.std.specs.Prelude.{◌≡◌, ◌≤◌, ◌↔◌, IsTrue};
 ghost use Rattle.format.specs.Refusals.{refusal, refused, refused_in_section, message_number};
 ghost use Rattle.format.specs.declared.fault.Layer.TheVariants as layer;
 ghost use Rattle.sections.specs.Rules.{judge, judged};
 ghost use Rattle.messages.specs.Order.{held_last, held_due};
 ghost use Rattle.messages.specs.Messages.{Ended, head_checks, of_message};
-ghost use Rattle.messages.specs.Meaning.{data_verdict, verdict, next_of, taken, advance, meaning, counted};
+ghost use Rattle.messages.specs.Meaning.{verdict, next_of, taken, advance, meaning, counted};
 ghost use Rattle.messages.specs.Steps.{held_step, held_next};
 ghost use Rattle.messages.specs.Laws.{MessageLaws};
 
@@ -14,10 +14,18 @@ use crate::order::{Due, Last, announced};
 use format::fault::{Fault, InSection, MessageFault, Spot, Start};
 use format::limits::MOST_OCTETS;
 use format::numbers::field;
-use runs::checking::check_string;
+use runs::reading::RunString;
 use sections::packing::packing_of;
 use sections::parts::content;
-use sections::tables::{Kind, check_packing, check_section};
+use sections::tables::check_section;
+
+/// Octets of a message, in their place.
+#[derive(Clone, Copy)]
+pub(crate) struct Part<'a> {
+    pub octets: &'a [u8],
+    pub start: Start,
+    ghost within: { start.place ≤ 134217728 },
+}
 
 /// What one section leaves: the section just read, the field that it finishes, and the octets after it.
 #[derive(Drop)]
@@ -59,33 +67,24 @@ fn check_head(octets: &[u8]) -> Result<(), Fault>
     Ok(())
 }
 
-/// Checks section 7 and its string.
-fn check_data(section: &[u8], start: Start, v: u8, points: u32) -> Result<(), InSection>
-    requires { start.place ≤ 134217728 }
-    ensures { refused_in_section result ≡ data_verdict v points start.place start.fields section.now }
+/// Checks a section that may come here, and the string in it.
+fn check_due(due: &Due<&[u8]>, section: Part) -> Result<(), InSection>
+    ensures { refused_in_section result ≡ verdict (held_due due.now) section.entry.start.place section.entry.start.fields section.entry.octets.now }
 {
-    check_section(Kind::Data, section, start)?;
-    let within = Start {
-        place: start.place + 5,
-        fields: start.fields,
-    };
-    check_string(content(section), v, points, within)?;
-    Ok(())
-}
-
-/// Checks a section that may come here.
-fn check_due(due: &Due<&[u8]>, start: Start, section: &[u8]) -> Result<(), InSection>
-    requires { start.place ≤ 134217728 }
-    ensures { refused_in_section result ≡ verdict (held_due due.now) start.place start.fields section.now }
-{
-    match due {
-        Due::Identification => check_section(Kind::Identification, section, start),
-        Due::Frame => check_section(Kind::Frame, section, start),
-        Due::Product(_) => check_section(Kind::Product, section, start),
-        Due::Packing(grid, _) => check_packing(section, start, grid.points),
-        Due::Bitmap(_, _, _) => check_section(Kind::Bitmap, section, start),
-        Due::Data(grid, _, packing) => check_data(section, start, packing.v, grid.points),
+    let Part { octets, start } = section;
+    check_section(due.section(), octets, due.points(), start)?;
+    if let Due::Data(_, _, packing) = due {
+        let within = Start {
+            place: start.place + 5,
+            fields: start.fields,
+        };
+        let string = RunString {
+            octets: content(octets),
+            v: packing.v,
+        };
+        string.check(due.points(), within)?;
     }
+    Ok(())
 }
 
 /// What a section leaves that keeps its rules.
@@ -93,6 +92,7 @@ fn step_of<'a>(due: Due<&'a [u8]>, section: &'a [u8], after: &'a [u8]) -> Step<'
     ensures { held_step result ≡ next_of (held_due due.entry) section.now after.now }
 {
     let mut made = None;
+    // a match: each kind of section leaves something else
     let last = match due {
         Due::Identification => Last::Identification,
         Due::Frame => Last::Frame(grid_of(section)),
@@ -119,25 +119,23 @@ fn step_of<'a>(due: Due<&'a [u8]>, section: &'a [u8], after: &'a [u8]) -> Step<'
 /// Reads a section that may come here, with the octets after it.
 fn read_section<'a>(
     due: Due<&'a [u8]>,
-    start: Start,
-    section: &'a [u8],
+    section: Part<'a>,
     after: &'a [u8],
 ) -> Result<Step<'a>, Fault>
-    requires { start.place ≤ 134217728 }
-    ensures { held_next result ≡ taken (held_due due.entry) start.place start.fields section.now after.now }
+    ensures { held_next result ≡ taken (held_due due.entry) section.entry.start.place section.entry.start.fields section.entry.octets.now after.now }
 {
-    check_due(&due, start, section)?;
-    Ok(step_of(due, section, after))
+    check_due(&due, section)?;
+    Ok(step_of(due, section.octets, after))
 }
 
 /// Reads the next section, where no end mark stands.
-fn next_section<'a>(last: Last<&'a [u8]>, start: Start, rest: &'a [u8]) -> Result<Step<'a>, Fault>
-    requires { start.place ≤ 134217728 }
-    ensures { held_next result ≡ advance (held_last last.entry) start.place start.fields rest.now }
+fn next_section<'a>(last: Last<&'a [u8]>, rest: Part<'a>) -> Result<Step<'a>, Fault>
+    ensures { held_next result ≡ advance (held_last last.entry) rest.entry.start.place rest.entry.start.fields rest.entry.octets.now }
 {
+    let Part { octets, start } = rest;
     let place = start.place as usize;
     let fields = start.fields;
-    let [a, b, c, d, number, content @ ..] = rest else {
+    let [a, b, c, d, number, content @ ..] = octets else {
         return Err(Fault::Message(MessageFault::CutShort, Spot { place, fields }));
     };
     let Some(due) = announced(last, *number) else {
@@ -153,20 +151,25 @@ fn next_section<'a>(last: Last<&'a [u8]>, start: Start, rest: &'a [u8]) -> Resul
     if length > 5 + content.len() {
         return Err(Fault::Message(MessageFault::CutShort, Spot { place, fields }));
     }
-    let (section, after) = rest.split_at(length);
-    read_section(due, start, section, after)
+    let (section, after) = octets.split_at(length);
+    read_section(
+        due,
+        Part {
+            octets: section,
+            start,
+        },
+        after,
+    )
 }
 
 /// Whether the end mark stands here, which it may only after a section 7.
 fn at_end(last: &Last<&[u8]>, rest: &[u8]) -> bool
-    ensures { Decides result (Ended (held_last last.now) rest.now) }
+    ensures { IsTrue result ↔ Ended (held_last last.now) rest.now }
 {
-    match (last, rest) {
-        (Last::Data(_), [b'7', b'7', b'7', b'7', ..]) => true,
-        _ => false,
-    }
+    matches!((last, rest), (Last::Data(_), [b'7', b'7', b'7', b'7', ..]))
 }
 
+// beside the walk of a loader's fields, which checks nothing again
 /// Checks a whole message, and counts its fields.
 pub fn check_message(octets: &[u8]) -> Result<usize, Fault>
     ensures counts { refused result ≡ counted (meaning octets.now) }
@@ -194,7 +197,13 @@ pub fn check_message(octets: &[u8]) -> Result<usize, Fault>
             place: place as u32,
             fields,
         };
-        let step = next_section(last, start, rest)?;
+        let step = next_section(
+            last,
+            Part {
+                octets: rest,
+                start,
+            },
+        )?;
         if step.made.is_some() {
             fields += 1;
         }

@@ -66,10 +66,10 @@ fn main(rt: HostRuntime) -> io::Result<()> {
 }
 
 /// All piles over each field, and over it and the next.
-fn show_piles(rt: &HostRuntime, loader: &Loader<'_>) -> io::Result<()> {
+fn show_piles(rt: &impl Print, loader: &Loader<'_>) -> io::Result<()> {
     let count = loader.count();
     for k in 0..count {
-        let next = if k + 1 < count { k + 1 } else { 0 };
+        let next = (k + 1) % count;
         show_windows(rt, loader, k)?;
         show_recodings(rt, loader, k)?;
         show_overlays(rt, loader, k, next)?;
@@ -87,10 +87,12 @@ fn packed<'a>(loader: &Loader<'a>, k: usize) -> Packed<'a> {
 }
 
 /// The levels of a chart's part, row by row.
-fn show_part<C: Chart>(rt: &HostRuntime, name: &str, chart: C, place: Place) -> io::Result<()>
-where
-    C: Drop,
-{
+fn show_part<C: Chart + Drop>(
+    rt: &impl Print,
+    name: &str,
+    chart: C,
+    place: Place,
+) -> io::Result<()> {
     let Place(width, height, column, row) = place;
     let mut window = Window::over(chart);
     let _ = window.place(width, height, column, row);
@@ -98,8 +100,8 @@ where
 }
 
 /// The levels of a chart of at most 64 cells, row by row.
-fn show_levels<C: Chart>(rt: &HostRuntime, name: &str, chart: &mut C) -> io::Result<()> {
-    let size = (*chart).size();
+fn show_levels<C: Chart>(rt: &impl Print, name: &str, chart: &mut C) -> io::Result<()> {
+    let size = chart.size();
     let mut buffer = [0u8; 64];
     println!(rt; "pile={name}")?;
     let Some(levels) = buffer.get_mut(..size.cells()) else {
@@ -118,7 +120,7 @@ fn show_levels<C: Chart>(rt: &HostRuntime, name: &str, chart: &mut C) -> io::Res
 }
 
 /// Each window over a field, and the field itself after they were lent it.
-fn show_windows(rt: &HostRuntime, loader: &Loader<'_>, k: usize) -> io::Result<()> {
+fn show_windows(rt: &impl Print, loader: &Loader<'_>, k: usize) -> io::Result<()> {
     let mut chart = packed(loader, k);
     for place in PLACES {
         show_part(rt, "window", &mut chart, place)?;
@@ -127,7 +129,7 @@ fn show_windows(rt: &HostRuntime, loader: &Loader<'_>, k: usize) -> io::Result<(
 }
 
 /// A field through its lamp map, and through a map that turns some levels round.
-fn show_recodings(rt: &HostRuntime, loader: &Loader<'_>, k: usize) -> io::Result<()> {
+fn show_recodings(rt: &impl Print, loader: &Loader<'_>, k: usize) -> io::Result<()> {
     if let Ok(map) = loader.lamp_map(k) {
         show_part(
             rt,
@@ -145,7 +147,7 @@ fn show_recodings(rt: &HostRuntime, loader: &Loader<'_>, k: usize) -> io::Result
 }
 
 /// A field over the next, by each rule and with none named.
-fn show_overlays(rt: &HostRuntime, loader: &Loader<'_>, k: usize, next: usize) -> io::Result<()> {
+fn show_overlays(rt: &impl Print, loader: &Loader<'_>, k: usize, next: usize) -> io::Result<()> {
     let (first, second) = (packed(loader, k), packed(loader, next));
     show_part(rt, "hazard", hazard(first, second), SHOWN)?;
     let (first, second) = (packed(loader, k), packed(loader, next));
@@ -163,7 +165,7 @@ fn show_overlays(rt: &HostRuntime, loader: &Loader<'_>, k: usize, next: usize) -
 }
 
 /// A recoded part of a field over marked cells.
-fn show_cells_over(rt: &HostRuntime, loader: &Loader<'_>, k: usize) -> io::Result<()> {
+fn show_cells_over(rt: &impl Print, loader: &Loader<'_>, k: usize) -> io::Result<()> {
     let mut marks = Cells::new();
     let _ = marks.open(&MARKS, 4, 2);
     let mut map = Recoding::over(packed(loader, k));
@@ -178,7 +180,7 @@ fn show_cells_over(rt: &HostRuntime, loader: &Loader<'_>, k: usize) -> io::Resul
 }
 
 /// Octets over a field, and a field over octets.
-fn show_cells_under(rt: &HostRuntime, loader: &Loader<'_>, k: usize) -> io::Result<()> {
+fn show_cells_under(rt: &impl Print, loader: &Loader<'_>, k: usize) -> io::Result<()> {
     let mut octets = Cells::new();
     let _ = octets.open(&OCTETS, 4, 2);
     let mut chart = packed(loader, k);
@@ -188,16 +190,14 @@ fn show_cells_under(rt: &HostRuntime, loader: &Loader<'_>, k: usize) -> io::Resu
     show_part(rt, "octets under", under, SHOWN)
 }
 
+// 0 is what is printed where nothing was refused
 /// The number of a refusal, or 0.
 fn number(answer: Result<(), Fault>) -> u8 {
-    match answer {
-        Ok(()) => 0,
-        Err(fault) => fault.number(),
-    }
+    answer.err().map_or(0, |fault| fault.number())
 }
 
 /// Calls that are refused, and what the charts show then.
-fn show_refusals(rt: &HostRuntime, loader: &Loader<'_>, count: usize) -> io::Result<()> {
+fn show_refusals(rt: &impl Print, loader: &Loader<'_>, count: usize) -> io::Result<()> {
     let mut chart = packed(loader, 0);
     let missing = number(chart.open(loader, count));
     println!(rt; "open={missing}")?;

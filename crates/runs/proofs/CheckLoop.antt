@@ -1,83 +1,68 @@
 -- What the loop over a string's runs keeps.
-use Rattle.std.proofs.Common.{◌≡◌, ℕ, suc, ◌+◌, ◌-◌, ◌<◌, ◌≤◌, min, List, [], ◌∷◌, length, get_or, drop, Some, None, sym, refl, ap, ◌∙◌, subst₂, add-one, arith}
-use Rattle.std.proofs.lemmas.List.{drop_all}
+use Rattle.std.proofs.Common.{◌≡◌, ℕ, suc, ◌+◌, ◌-◌, ◌<◌, ◌≤◌, min, List, [], length, drop, false, Some, None, sym, ap, ◌∙◌, arith, length-drop}
+use Rattle.std.proofs.lemmas.Bool.{cond-false}
 use Rattle.runs.specs.Runs.{base, leading_digits, runs, digits_value}
-use Rattle.runs.specs.StringFaults.{flaw, fault_from, fault}
-use Rattle.runs.proofs.Strings.{leading_level}
-use Rattle.runs.proofs.DigitLoop.{runs_from, leading_next, next_within, level_next}
-use Rattle.runs.proofs.Faultless.{fault_early, fault_none, fault_past, fault_on, fault_begun, fault_digit}
+use Rattle.runs.specs.StringFaults.{flaw, digit_first, fault_from, fault}
+use Rattle.runs.specs.declared.reading.Run.{Run}
+use Rattle.runs.specs.declared.reading.Runs.{Runs}
+use Rattle.runs.specs.Handed.{ahead, HandsOut, IsOver}
+use Rattle.runs.proofs.DigitLoop.{runs_skip}
+use Rattle.runs.proofs.Handing.{turn, over}
+use Rattle.runs.proofs.Faultless.{fault_early, fault_none, fault_past, fault_on}
 
-pub record Checked (V n : ℕ) (s : List ℕ) (place done : ℕ) : Type 0 where
-  pub led : leading_digits V (drop place s) ≡ []
-  pub within : place ≤ length s
+pub record Checked (V n : ℕ) (s : List ℕ) (w : Runs) (place done : ℕ) : Type 0 where
+  pub v : w.v ≡ V
+  pub within : place + length w.rest.now ≤ length s
   pub low : done ≤ n
-  pub still : fault_from (base V) n place done (runs V (drop place s)) ≡ fault V n s
+  pub still : fault_from (base V) n place done (ahead w) ≡ fault V n s
 
--- before the first run
-pub checked_none : (V n : ℕ) (s : List ℕ) → (0 < length s → get_or s 0 0 ≤ V) → Checked V n s 0 0
-unfolding leading_digits runs
-checked_none V n [] h = record { led = refl; within = omega arith; low = omega arith; still = refl }
-checked_none V n (o ∷ s) h =
-    let level : o ≤ V = h (omega arith) in
-    record { led = leading_level V o s level; within = omega arith; low = omega arith; still = sym (fault_begun V n (o ∷ s) level) }
+-- before the first run of a string that does not begin with a digit
+pub checked_none : (V n : ℕ) (s : List ℕ) (w : Runs) → digit_first V s ≡ false → w.v ≡ V → w.rest.now ≡ drop (length (leading_digits V s)) s → Checked V n s w 0 0
+checked_none V n s w begins v rest = record {
+  v = v;
+  within = omega (arith, ap length rest, length-drop (length (leading_digits V s)) s);
+  low = omega arith;
+  still =
+      (λ i. fault_from (base V) n 0 0 (runs (v i) (rest i)))
+      ∙ ap (fault_from (base V) n 0 0) (runs_skip V s)
+      ∙ sym (cond-false _ _ _ begins);
+}
 
--- a digit at the first octet
-pub checked_digit : (V n : ℕ) (s : List ℕ) → 0 < length s → V < get_or s 0 0 → fault V n s ≡ Some (flaw 10 0 0)
-checked_digit V n [] some high = absurd (omega arith)
-checked_digit V n (o ∷ s) some high = fault_digit V n o s high
-
-module _ {V n : ℕ} {s : List ℕ} {place done : ℕ} (k : Checked V n s place done) where
-  abbrev pub length_here : ℕ
-  length_here = suc (digits_value (base V) (leading_digits V (drop (suc place) s)))
-
-  abbrev pub next_here : ℕ
-  next_here = suc place + length (leading_digits V (drop (suc place) s))
-
-  -- a run that passes the last cell
-  pub checked_past : place < length s → n < done + length_here → fault V n s ≡ Some (flaw 11 place done)
-  checked_past h past =
-      sym k.still
-      ∙ ap (fault_from (base V) n place done) (runs_from V s place h (level_next V s place h k.led))
-      ∙ fault_past (base V) n place done _ _ past
-
-  -- one more run
-  pub checked_more : place < length s → done + length_here ≤ n → Checked V n s next_here (done + length_here)
-  checked_more h fits =
-      let at : place + suc (length (leading_digits V (drop (suc place) s))) ≡ next_here = omega arith in
-      record {
-        led = leading_next V s (suc place);
-        within = next_within V s (suc place) h;
-        low = fits;
-        still =
-            ap (λ p. fault_from (base V) n p (done + length_here) (runs V (drop next_here s))) (sym at)
-            ∙ sym (fault_on (base V) n place done _ (runs V (drop next_here s)) fits)
-            ∙ ap (fault_from (base V) n place done) (sym (runs_from V s place h (level_next V s place h k.led)))
-            ∙ k.still;
-      }
-
-  -- the same, at the length and the place that the digit loop yields
-  module _ (cap cells next : ℕ) (small : n < cap)
-      (long : cells ≡ min (suc (digits_value (base V) (leading_digits V (drop (place + 1) s)))) cap) where
-    exact : cells ≡ min length_here cap
-    exact = rw add-one at long
-
-    pub read_past : place < length s → n - done < cells → fault V n s ≡ Some (flaw 11 place done)
-    read_past h past = let e = exact in let low = k.low in checked_past h (omega arith)
-
-    pub read_more : next ≡ place + 1 + length (leading_digits V (drop (place + 1) s)) → place < length s → cells ≤ n - done → Checked V n s next (done + cells)
-    read_more after h fits =
-        let e = exact in
+module _ {V n : ℕ} {s : List ℕ} {w : Runs} {place done : ℕ} (k : Checked V n s w place done) where
+  module _ {u : Runs} {run : Run} (h : HandsOut w run u) (small : n < 4_294_967_296) where
+    -- a run that passes the last cell
+    pub checked_past : n - done < run.cells → fault V n s ≡ Some (flaw 11 place done)
+    checked_past past =
+        let t = turn h in
+        let cells = ap (λ (r : Run). r.cells) t.2 ∙ ap (λ v. min (suc (digits_value (base v) t.0.1)) 4_294_967_296) k.v in
         let low = k.low in
-        let whole : length_here ≡ cells = omega arith in
-        let end : next_here ≡ next = sym (rw add-one at after) in
-        subst₂ (Checked V n s) end (ap (λ m. done + m) whole) (checked_more h (omega arith))
+        sym k.still ∙ ap (fault_from (base V) n place done) t.1 ∙ fault_past (base V) n place done t.0 (ahead u) (omega arith)
 
-  over : length s ≤ place → fault_from (base V) n place done [] ≡ fault V n s
-  unfolding runs
-  over h = ap (λ l. fault_from (base V) n place done (runs V l)) (sym (drop_all place s h)) ∙ k.still
+    -- one more run
+    pub checked_more : run.cells ≤ n - done → Checked V n s u (place + run.octets) (done + run.cells)
+    checked_more fits =
+        let t = turn h in
+        let cells = ap (λ (r : Run). r.cells) t.2 ∙ ap (λ v. min (suc (digits_value (base v) t.0.1)) 4_294_967_296) k.v in
+        let octets = ap (λ (r : Run). r.octets) t.2 in
+        let low = k.low in
+        let all : run.cells ≡ suc (digits_value (base V) t.0.1) = omega arith in
+        record {
+          v = h.v ∙ k.v;
+          within = omega (arith, k.within, h.within, ap length h.rest, length-drop run.octets w.rest.now);
+          low = omega arith;
+          still =
+              (λ i. fault_from (base V) n (place + octets i) (done + all i) (ahead u))
+              ∙ sym (fault_on (base V) n place done t.0 (ahead u) (omega arith))
+              ∙ ap (fault_from (base V) n place done) (sym t.1)
+              ∙ k.still;
+        }
 
-  pub checked_early : length s ≤ place → done < n → fault V n s ≡ Some (flaw 12 place done)
-  checked_early h early = sym (over h) ∙ fault_early (base V) n place done early
+  module _ {u : Runs} (h : IsOver w u) where
+    still : fault_from (base V) n place done [] ≡ fault V n s
+    still = ap (fault_from (base V) n place done) (sym (over h)) ∙ k.still
 
-  pub checked_all : length s ≤ place → n ≤ done → fault V n s ≡ None
-  checked_all h all = sym (over h) ∙ fault_none (base V) n place done all
+    pub checked_early : done < n → fault V n s ≡ Some (flaw 12 place done)
+    checked_early early = sym still ∙ fault_early (base V) n place done early
+
+    pub checked_all : n ≤ done → fault V n s ≡ None
+    checked_all all = sym still ∙ fault_none (base V) n place done all

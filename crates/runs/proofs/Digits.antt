@@ -1,8 +1,8 @@
 -- Digits of a base.
-use Rattle.std.proofs.Common.{◌≡◌, ℕ, zero, suc, ◌+◌, ◌*◌, ◌/◌, ◌%◌, ◌^◌, ◌<◌, ◌≤◌, List, [], ◌∷◌, length, sym, refl, ap, ◌∙◌, mod-lt, mul_comm, div-lt_iff_lt-mul, mul-le-mul_left, pow-suc, mul-zero, mul-one, mul-suc, arith}
-use native.Mathlib.Nat.{div-lt_self, mod-add-div, pow-zero, pow-succ'}
+use Rattle.std.proofs.Common.{◌≡◌, ℕ, zero, suc, ◌+◌, ◌*◌, ◌/◌, ◌%◌, ◌^◌, ◌<◌, ◌≤◌, List, [], ◌∷◌, length, refl, ap, ◌∙◌, mod-lt, mul_comm, div-lt_iff_lt-mul, mul-le-mul_left, pow-suc, mul-zero, mul-one, mul-suc, arith}
+use native.Mathlib.Nat.{div-lt_self, mod-add-div, pow-zero, pow-succ', pow-le-pow_right}
 use Rattle.std.specs.List.{AllByRecursion}
-use Rattle.std.proofs.lemmas.Nat.{div-mul-add, mod-mul-add}
+use Rattle.std.proofs.lemmas.Nat.{same_from_place}
 use Rattle.runs.specs.Runs.{digits_value}
 use Rattle.runs.specs.Canonical.{digits_by, digits, Tight}
 
@@ -56,21 +56,14 @@ tight_some L zero [] h t = absurd (t refl)
 tight_some L (suc d) [] h t = omega arith
 tight_some L d (e ∷ ds) h t = omega (arith, mul-le-mul_left L (tight_some L e ds h t), mul-one L)
 
-same_digit : (L a b m n : ℕ) → a < L → b < L → a + L * m ≡ b + L * n → (a ≡ b) × (m ≡ n)
-same_digit L a b m n ha hb e =
-    let turned : m * L + a ≡ n * L + b = omega (arith, mul_comm L m, mul_comm L n) in (
-      sym (mod-mul-add m L a ha) ∙ ap (λ x. x % L) turned ∙ mod-mul-add n L b hb,
-      sym (div-mul-add m L a ha) ∙ ap (λ x. x / L) turned ∙ div-mul-add n L b hb,
-    )
-
 pub tight_same : (L : ℕ) (ds es : List ℕ) → 0 < L → AllByRecursion (λ d. d < L) ds → AllByRecursion (λ d. d < L) es → Tight ds → Tight es → digits_value L ds ≡ digits_value L es → ds ≡ es
 tight_same L [] [] pos a b t u e = refl
 tight_same L [] (y ∷ es) pos a b t u e = absurd (omega (arith, tight_some L y es pos u))
 tight_same L (x ∷ ds) [] pos a b t u e = absurd (omega (arith, tight_some L x ds pos t))
 tight_same L (x ∷ ds) (y ∷ es) pos a b t u e =
-    let both = same_digit L x y (digits_value L ds) (digits_value L es) a.0 b.0 e in
-    let ih = tight_same L ds es pos a.1 b.1 (tight_tail x ds t) (tight_tail y es u) both.1 in
-    λ i. both.0 i ∷ ih i
+    let both = same_from_place (digits_value L ds) x (digits_value L es) y L a.0 b.0 (omega (arith, mul_comm L (digits_value L ds), mul_comm L (digits_value L es))) in
+    let ih = tight_same L ds es pos a.1 b.1 (tight_tail x ds t) (tight_tail y es u) both.0 in
+    λ i. both.1 i ∷ ih i
 
 -- the digits of what tight digits mean are those digits
 pub digits_value_lem : (L : ℕ) (ds : List ℕ) → 2 ≤ L → AllByRecursion (λ d. d < L) ds → Tight ds → digits L (digits_value L ds) ≡ ds
@@ -79,29 +72,19 @@ digits_value_lem L ds two u t =
     let le : n ≤ n = omega arith in
     tight_same L (digits L n) ds (omega arith) (under_digits_by L n n (omega arith)) u (tight_digits_by L n n two le) t (value_digits_by L n n two le)
 
--- a larger bound gives the same digits
-fuel : (L f g n : ℕ) → 2 ≤ L → n ≤ f → n ≤ g → digits_by L f n ≡ digits_by L g n
-unfolding digits_by
-fuel L zero zero n two a b = refl
-fuel L zero (suc g) zero two a b = refl
-fuel L zero (suc g) (suc n) two a b = absurd (omega arith)
-fuel L (suc f) zero zero two a b = refl
-fuel L (suc f) zero (suc n) two a b = absurd (omega arith)
-fuel L (suc f) (suc g) zero two a b = refl
-fuel L (suc f) (suc g) (suc n) two a b =
-    let less : suc n / L < suc n = div-lt_self (omega arith) (omega arith) in
-    ap (λ l. (suc n % L) ∷ l) (fuel L f g (suc n / L) two (omega arith) (omega arith))
-
 pub digits_zero : (L : ℕ) → digits L 0 ≡ []
 unfolding digits_by
 digits_zero L = refl
 
-pub digits_more : (L n : ℕ) → 2 ≤ L → 0 < n → digits L n ≡ (n % L) ∷ digits L (n / L)
-unfolding digits_by
-digits_more L zero two h = absurd (omega arith)
-digits_more L (suc n) two h =
-    let less : suc n / L < suc n = div-lt_self (omega arith) (omega arith) in
-    ap (λ l. (suc n % L) ∷ l) (fuel L n (suc n / L) (suc n / L) two (omega arith) (omega arith))
+-- one more digit than the logarithm
+pub length-digits : (L k n : ℕ) → 2 ≤ L → L ^ k ≤ n → n < L * L ^ k → length (digits L n) ≡ suc k
+length-digits L k n two low high =
+    let ds = digits L n in
+    let few : length ds ≤ suc k = length-digits_by L (suc k) n n two (omega (arith, high, pow-succ' L k)) in
+    let below = value_lt L ds (under_digits_by L n n (omega arith)) in
+    let value = value_digits_by L n n two (omega arith) in
+    let many : length ds ≤ k → ⊥ = λ h. omega (arith, pow-le-pow_right {n = L} (omega arith) {i = length ds} {j = k} h, below, value, low) in
+    omega (arith, few, many)
 
 -- a digits_value has no more digits than it counts
 pub digits_few : (L f n : ℕ) → length (digits_by L f n) ≤ f

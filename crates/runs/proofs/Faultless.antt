@@ -1,8 +1,9 @@
 -- A string has no fault exactly if it is loadable.
-use Rattle.std.proofs.Common.{◌≡◌, ℕ, suc, ◌+◌, ◌<◌, ◌≤◌, List, [], ◌∷◌, map, length, replicate, Some, None, sym, refl, ap, ◌∙◌, ⊎_elim, arith, length-append}
+use Rattle.std.proofs.Common.{◌≡◌, ℕ, suc, ◌+◌, ◌<◌, ◌≤◌, List, [], ◌∷◌, map, length, Some, None, sym, refl, ap, ◌∙◌, ltb, arith, length-append}
 use lib.ListN.{length-replicate}
 use Rattle.std.specs.List.{AllByRecursion}
-use Rattle.std.proofs.lemmas.Bool.{cases_lt, lt-ltb, le-ltb, cond-true, cond-false}
+use Rattle.std.proofs.lemmas.Bool.{cases_lt, lt-ltb, le-ltb, ltb-false, cond-true, cond-false, false_from_ne_true}
+use Rattle.std.proofs.lemmas.Option.{none-some}
 use Rattle.runs.specs.Runs.{base, runs, digits_value, measured, cells_of, loaded, Begins, highest}
 use Rattle.runs.specs.Canonical.{canonical}
 use Rattle.runs.specs.StringFaults.{Flaw, flaw, fault_from, fault, Loads}
@@ -33,24 +34,16 @@ total V rs = length (cells_of (map (measured V) rs))
 
 total_cons : (V : ℕ) (r : ℕ × List ℕ) (rs : List (ℕ × List ℕ)) → total V (r ∷ rs) ≡ suc (digits_value (base V) r.1) + total V rs
 unfolding total
-total_cons V r rs =
-    length-append (replicate (suc (digits_value (base V) r.1)) r.0) (cells_of (map (measured V) rs))
-    ∙ ap (λ k. k + total V rs) (length-replicate (suc (digits_value (base V) r.1)) r.0)
+total_cons V r rs = simp (length-append, length-replicate) refl
 
 fills : (V n place done : ℕ) (rs : List (ℕ × List ℕ)) → done ≤ n → fault_from (base V) n place done rs ≡ None → done + total V rs ≡ n
 unfolding total
-fills V n place done [] h e =
-    ⊎_elim
-    (λ (k : done < n). let clash : ◌≡◌ {A = ℕ} 0 1 = cc (fault_early (base V) n place done k) in absurd (omega arith))
-    (λ (k : n ≤ done). omega arith)
-    (cases_lt done n)
+fills V n place done [] h e = grind (arith, fault_early (base V) n place done, cases_lt done n, none-some, e)
 fills V n place done (r ∷ rs) h e =
     let after : ℕ = done + suc (digits_value (base V) r.1) in
-    ⊎_elim
-    (λ (k : n < after). let clash : ◌≡◌ {A = ℕ} 0 1 = cc (fault_past (base V) n place done r rs k) in absurd (omega arith))
-    (λ (k : after ≤ n).
-    omega (arith, total_cons V r rs, fills V n (place + suc (length r.1)) after rs k (sym (fault_on (base V) n place done r rs k) ∙ e)))
-    (cases_lt n after)
+    let past = fault_past (base V) n place done r rs in
+    let on = fault_on (base V) n place done r rs in
+    grind (arith, total_cons V r rs, past, on, cases_lt n after, none-some, e, fills V n (place + suc (length r.1)) after rs)
 
 filled : (V n place done : ℕ) (rs : List (ℕ × List ℕ)) → done + total V rs ≡ n → fault_from (base V) n place done rs ≡ None
 unfolding total
@@ -65,28 +58,22 @@ pub fault_begun : (V n : ℕ) (s : List ℕ) → Begins V s → fault V n s ≡ 
 fault_begun V n [] b = absurd b
 fault_begun V n (o ∷ s) b = cond-false _ _ _ (le-ltb V o b)
 
-pub fault_digit : (V n o : ℕ) (s : List ℕ) → V < o → fault V n (o ∷ s) ≡ Some (flaw 10 0 0)
-fault_digit V n o s h = cond-true _ _ _ (lt-ltb V o h)
+-- a string with no fault does not begin with a digit
+first_low : (V n o : ℕ) (s : List ℕ) → fault V n (o ∷ s) ≡ None → o ≤ V
+first_low V n o s e = ltb-false V o (false_from_ne_true (ltb V o) (λ t. none-some _ (sym e ∙ cond-true _ _ _ t)))
 
 -- a string with no fault has its cells, whatever its octets
 pub faultless_length : (V n : ℕ) (s : List ℕ) → fault V n s ≡ None → length (loaded V s) ≡ n
 unfolding runs total
 faultless_length V n [] e = omega (arith, fills V n 0 0 [] (omega arith) e)
 faultless_length V n (o ∷ s) e =
-    ⊎_elim
-    (λ (k : V < o). let clash : ◌≡◌ {A = ℕ} 0 1 = cc (fault_digit V n o s k) in absurd (omega arith))
-    (λ (k : o ≤ V). omega (arith, fills V n 0 0 (runs V (o ∷ s)) (omega arith) (sym (fault_begun V n (o ∷ s) k) ∙ e)))
-    (cases_lt V o)
+    omega (arith, fills V n 0 0 (runs V (o ∷ s)) (omega arith) (sym (fault_begun V n (o ∷ s) (first_low V n o s e)) ∙ e))
 
 -- a string of some cells with no fault begins with a level
-pub faultless_begins : (V n : ℕ) (s : List ℕ) → 0 < n → fault V n s ≡ None → Begins V s
+faultless_begins : (V n : ℕ) (s : List ℕ) → 0 < n → fault V n s ≡ None → Begins V s
 unfolding runs
 faultless_begins V n [] some e = absurd (omega (arith, faultless_length V n [] e))
-faultless_begins V n (o ∷ s) some e =
-    ⊎_elim
-    (λ (k : V < o). let clash : ◌≡◌ {A = ℕ} 0 1 = cc (fault_digit V n o s k) in absurd (omega arith))
-    (λ (k : o ≤ V). k)
-    (cases_lt V o)
+faultless_begins V n (o ∷ s) some e = first_low V n o s e
 
 loads : (V n : ℕ) (s : List ℕ) → 0 < n → AllByRecursion (λ o. o < 256) s → fault V n s ≡ None → Loads V n s
 loads V n s some a e = record {
@@ -109,7 +96,7 @@ faultless_loads V n s some a = record {
 
 -- a string with a fault is not loadable
 pub faulty : (V n : ℕ) (s : List ℕ) (f : Flaw) → fault V n s ≡ Some f → Loads V n s → ⊥
-faulty V n s f e ok = let clash : ◌≡◌ {A = ℕ} 0 1 = cc (none V n s ok) in omega arith
+faulty V n s f e ok = none-some f (sym (none V n s ok) ∙ e)
 
 pub canonical_faultless : CanonicalFaultless
 unfolding total

@@ -1,7 +1,11 @@
 -- The highest level of a string's cells.
-use Rattle.std.proofs.Common.{◌≡◌, ℕ, zero, suc, ◌<◌, ◌≤◌, max, List, [], ◌∷◌, ◌++◌, get_or, replicate, refl, ⊎_elim, arith}
+use Rattle.std.proofs.Common.{◌≡◌, ℕ, zero, suc, ◌≤◌, max, List, [], ◌∷◌, ◌++◌, get_or, replicate, nat_le, unwrap_or, fold, sym, refl, ◌∙◌, arith}
+use Rattle.std.specs.List.{filter, reduce}
+use Rattle.std.proofs.lemmas.List.{get_or_past}
+use Rattle.std.proofs.lemmas.List.Recursion.{max_bounds}
 use Rattle.std.proofs.lemmas.Bool.{cases_lt}
-use Rattle.runs.specs.Runs.{base, leading_digits, runs, digits_value, loaded, highest}
+use Rattle.std.proofs.lemmas.Bool.Decides.{nat_tests}
+use Rattle.runs.specs.Runs.{runs, loaded, highest}
 use Rattle.runs.proofs.Strings.{runs_level, runs_digit}
 
 pub highest_run : (n v : ℕ) (cs : List ℕ) → highest (replicate (suc n) v ++ cs) ≡ max v (highest cs)
@@ -13,15 +17,27 @@ pub loaded_most : (V : ℕ) (s : List ℕ) → highest (loaded V s) ≤ V
 unfolding runs
 loaded_most V [] = omega arith
 loaded_most V (o ∷ s) =
-    ⊎_elim
-    (λ (k : V < o). rw (runs_digit V o s k) (loaded_most V s))
-    (λ (k : o ≤ V). rw (runs_level V o s k) (omega (arith, highest_run (digits_value (base V) (leading_digits V s)) o (loaded V s), loaded_most V s)))
-    (cases_lt V o)
-
-pub get_or-highest : (cells : List ℕ) (k : ℕ) → get_or cells k 0 ≤ highest cells
-get_or-highest [] k = omega arith
-get_or-highest (c ∷ cs) zero = omega arith
-get_or-highest (c ∷ cs) (suc k) = omega (arith, get_or-highest cs k)
+    grind (arith, runs_level V o s, runs_digit V o s, cases_lt V o, highest_run, loaded_most V s)
 
 pub loaded_low : (V : ℕ) (s : List ℕ) (k : ℕ) → get_or (loaded V s) k 0 ≤ V
-loaded_low V s k = omega (arith, get_or-highest (loaded V s) k, loaded_most V s)
+loaded_low V s k =
+    let most = max_bounds highest (λ c. c) refl (λ c cs. refl) (loaded V s) k 0 in
+    grind (arith, most, get_or_past (loaded V s) k 0, loaded_most V s)
+
+-- the highest of the octets that are levels
+highest_filter : (V : ℕ) (s : List ℕ) → highest (loaded V s) ≡ highest (filter (λ o. nat_le o V) s)
+unfolding runs
+highest_filter V [] = refl
+highest_filter V (o ∷ s) =
+    grind (arith, nat_tests, runs_level V o s, runs_digit V o s, cases_lt V o, highest_run, highest_filter V s)
+
+fold_max : (c : ℕ) (cs : List ℕ) → fold max c cs ≡ highest (c ∷ cs)
+fold_max c [] = omega arith
+fold_max c (d ∷ cs) = omega (arith, fold_max (max c d) cs)
+
+reduce_max : (cs : List ℕ) → unwrap_or (reduce max cs) 0 ≡ highest cs
+reduce_max [] = refl
+reduce_max (c ∷ cs) = fold_max c cs
+
+pub highest_levels : (V : ℕ) (s : List ℕ) → highest (loaded V s) ≡ unwrap_or (reduce max (filter (λ o. nat_le o V) s)) 0
+highest_levels V s = highest_filter V s ∙ sym (reduce_max (filter (λ o. nat_le o V) s))

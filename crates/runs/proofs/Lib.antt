@@ -6,5 +6,6 @@ pub mod Shortest
 pub mod Theorems
 pub mod DigitLoop
 pub mod Faultless
+pub mod Handing
 pub mod CheckLoop
 pub mod LengthLoop

@@ -1,9 +1,9 @@
 -- The longest runs of equal cells.
-use Rattle.std.proofs.Common.{◌≡◌, ℕ, zero, suc, ◌+◌, ◌<◌, ◌≤◌, max, List, [], ◌∷◌, ◌++◌, map, length, replicate, sym, refl, ap, ◌∙◌, subst, ⊎_elim, append_assoc, arith}
-use native.Mathlib.Nat.{le-max_left}
+use Rattle.std.proofs.Common.{◌≡◌, ℕ, zero, suc, ◌+◌, ◌≤◌, List, [], ◌∷◌, ◌++◌, map, replicate, sym, refl, ap, ◌∙◌, subst, ⊎_elim, append_assoc, arith}
 use lib.ListN.{replicate-append-replicate}
 use Rattle.std.specs.List.{AllByRecursion}
-use Rattle.std.proofs.ByRecursion.{All-weaker}
+use Rattle.std.proofs.lemmas.List.Elements.{All-from_recursion, recursion_from_All}
+use Rattle.std.proofs.lemmas.List.Recursion.{max_bounds, max_least}
 use Rattle.std.proofs.lemmas.Bool.{eq-eqb, ne_eqb, cond-true, cond-false, cases_eq}
 use Rattle.runs.specs.Runs.{cells_of, highest}
 use Rattle.runs.specs.Canonical.{Apart, level, prepend, longest_runs}
@@ -17,17 +17,11 @@ module _ (v n : ℕ) (r : ℕ × ℕ) (rs : List (ℕ × ℕ)) where
   unfolding prepend
   prepend_other e = cond-false _ _ _ (ne_eqb v r.0 e)
 
-longer : (v : ℕ) {m n : ℕ} (rs : List (ℕ × ℕ)) → m ≡ n → ◌≡◌ {A = List (ℕ × ℕ)} ((v, m) ∷ rs) ((v, n) ∷ rs)
-longer v rs e = λ i. (v, e i) ∷ rs
-
 prepend_again : (v n : ℕ) (rs : List (ℕ × ℕ)) → prepend v 0 (prepend v n rs) ≡ prepend v (suc n) rs
 unfolding prepend
-prepend_again v n [] = prepend_same v 0 (v, n) [] refl ∙ longer v [] (omega arith)
+prepend_again v n [] = grind (arith, prepend_same)
 prepend_again v n (r ∷ rs) =
-    ⊎_elim
-    (λ e. rw (prepend_same v n r rs e, prepend_same v (suc n) r rs e, prepend_same v 0 (v, suc n + r.1) rs refl) (longer v rs (omega arith)))
-    (λ e. rw (prepend_other v n r rs e, prepend_other v (suc n) r rs e, prepend_same v 0 (v, n) (r ∷ rs) refl) (longer v (r ∷ rs) (omega arith)))
-    (cases_eq v r.0)
+    grind (arith, prepend_same, prepend_other, cases_eq v r.0)
 
 pub longest_replicate : (v n : ℕ) (cs : List ℕ) → longest_runs (replicate (suc n) v ++ cs) ≡ prepend v n (longest_runs cs)
 longest_replicate v zero cs = refl
@@ -77,44 +71,21 @@ longest_cells (r ∷ q ∷ rs) a =
 levels_prepend : (P : ℕ → Type 0) (v n : ℕ) (rs : List (ℕ × ℕ)) → P v → AllByRecursion (λ r. P r.0) rs → AllByRecursion (λ r. P r.0) (prepend v n rs)
 unfolding prepend
 levels_prepend P v n [] p a = (p, tt)
-levels_prepend P v n (r ∷ rs) p a =
-    ⊎_elim
-    (λ e. rw (prepend_same v n r rs e) (p, a.1))
-    (λ e. rw (prepend_other v n r rs e) (p, a))
-    (cases_eq v r.0)
+levels_prepend P v n (r ∷ rs) p a = grind (arith, prepend_same v n r rs, prepend_other v n r rs, cases_eq v r.0)
 
 pub levels_longest : (P : ℕ → Type 0) (cells : List ℕ) → AllByRecursion P cells → AllByRecursion (λ r. P r.0) (longest_runs cells)
 levels_longest P [] a = tt
 levels_longest P (c ∷ cs) a = levels_prepend P c 0 (longest_runs cs) a.0 (levels_longest P cs a.1)
 
 pub below_highest : (cells : List ℕ) → AllByRecursion (λ c. c ≤ highest cells) cells
-below_highest [] = tt
-below_highest (c ∷ cs) =
-    (le-max_left c (highest cs), All-weaker (λ x. x ≤ highest cs) (λ x. x ≤ max c (highest cs)) (λ x h. omega arith) cs (below_highest cs))
+below_highest cells = recursion_from_All (λ c. c ≤ highest cells) cells (max_bounds highest (λ c. c) refl (λ c cs. refl) cells)
 
 pub highest_least : (k : ℕ) (cells : List ℕ) → AllByRecursion (λ c. c ≤ k) cells → highest cells ≤ k
-highest_least k [] a = omega arith
-highest_least k (c ∷ cs) a = omega (arith, a.0, highest_least k cs a.1)
-
-some_prepend : (v n : ℕ) (rs : List (ℕ × ℕ)) → 0 < length (prepend v n rs)
-unfolding prepend
-some_prepend v n [] = omega arith
-some_prepend v n (r ∷ rs) =
-    ⊎_elim
-    (λ e. rw (prepend_same v n r rs e) (omega arith))
-    (λ e. rw (prepend_other v n r rs e) (omega arith))
-    (cases_eq v r.0)
-
-pub some_longest : (cells : List ℕ) → 0 < length cells → 0 < length (longest_runs cells)
-some_longest [] h = absurd (omega arith)
-some_longest (c ∷ cs) h = some_prepend c 0 (longest_runs cs)
+highest_least k cells a = max_least highest (λ c. c) refl (λ c cs. refl) cells 0 k (λ i h. All-from_recursion (λ c. c ≤ k) cells a i 0 h)
 
 -- a run of another level stays apart from the runs of cells
 pub prepend_apart : (v m c n : ℕ) (rs : List (ℕ × ℕ)) → (c ≡ v → ⊥) → prepend v m (prepend c n rs) ≡ (v, m) ∷ prepend c n rs
 unfolding prepend
 prepend_apart v m c n [] ne = prepend_other v m (c, n) [] (λ e. ne (sym e))
 prepend_apart v m c n (r ∷ rs) ne =
-    ⊎_elim
-    (λ e. rw (prepend_same c n r rs e) (prepend_other v m (c, suc n + r.1) rs (λ d. ne (sym d))))
-    (λ e. rw (prepend_other c n r rs e) (prepend_other v m (c, n) (r ∷ rs) (λ d. ne (sym d))))
-    (cases_eq c r.0)
+    grind (arith, prepend_same, prepend_other, cases_eq c r.0)

@@ -1,5 +1,5 @@
 -- No string of the cells is shorter than the canonical one.
-use Rattle.std.proofs.Common.{◌≡◌, ℕ, suc, ◌+◌, ◌^◌, ◌<◌, ◌≤◌, List, [], ◌∷◌, map, length, refl, ap, ◌∙◌, subst, ⊎_elim, mul-le-mul_left, pow-suc, arith, length-append}
+use Rattle.std.proofs.Common.{◌≡◌, ℕ, suc, ◌+◌, ◌*◌, ◌^◌, ◌<◌, ◌≤◌, List, [], ◌∷◌, map, length, refl, subst, mul-le-mul_left, pow-suc, arith, length-append}
 use native.Mathlib.Nat.{pow-le-pow_left, pow-le-pow_right}
 use lib.ListN.{length-map}
 use Rattle.std.specs.List.{AllByRecursion}
@@ -7,7 +7,7 @@ use Rattle.std.proofs.lemmas.Bool.{cases_eq, cases_lt}
 use Rattle.runs.specs.Runs.{base, leading_digits, runs, digits_value, measured, cells_of}
 use Rattle.runs.specs.Canonical.{prepend, longest_runs, digits, runs_octets}
 use Rattle.runs.proofs.Digits.{value_digits_by, under_digits_by, value_lt, length-digits_by}
-use Rattle.runs.proofs.Strings.{octet, leading_level, leading_digit, runs_level, runs_digit, under_leading}
+use Rattle.runs.proofs.Strings.{leading_level, leading_digit, runs_level, runs_digit, under_leading}
 use Rattle.runs.proofs.LongestRuns.{prepend_same, prepend_other, longest_replicate}
 
 -- how many octets runs_octets runs, with digits of base L
@@ -17,9 +17,7 @@ cost L (r ∷ rs) = suc (length (digits L r.1) + cost L rs)
 
 pub length_octets : (V : ℕ) (rs : List (ℕ × ℕ)) → length (runs_octets V rs) ≡ cost (base V) rs
 length_octets V [] = refl
-length_octets V (r ∷ rs) =
-    let ds : List ℕ = digits (base V) r.1 in
-    ap suc (length-append (map (octet V) ds) (runs_octets V rs) ∙ (λ i. length-map ds (octet V) i + length_octets V rs i))
+length_octets V (r ∷ rs) = simp (length-append, length-map) (grind (arith, length_octets V rs))
 
 below_power : (L n : ℕ) → 2 ≤ L → n < L ^ length (digits L n)
 below_power L n two =
@@ -30,19 +28,15 @@ joined_digits : (L n m : ℕ) → 2 ≤ L → length (digits L (suc n + m)) ≤ 
 joined_digits L n m two =
     let a : ℕ = length (digits L n) in
     let b : ℕ = length (digits L m) in
-    let left : L ^ a ≤ L ^ (a + b) = pow-le-pow_right (omega arith) (omega arith) in
-    let right : L ^ b ≤ L ^ (a + b) = pow-le-pow_right (omega arith) (omega arith) in
+    let double : L ^ (a + b) * 2 ≤ L ^ (a + b) * L = mul-le-mul_left (L ^ (a + b)) two in
     length-digits_by L (suc (a + b)) (suc n + m) (suc n + m) two
-    (omega (arith, below_power L n two, below_power L m two, pow-suc L (a + b), mul-le-mul_left (L ^ (a + b)) two))
+    (grind (arith, below_power L n two, below_power L m two, pow-suc L (a + b), pow-le-pow_right, double))
 
 cost-prepend : (L v n : ℕ) (rs : List (ℕ × ℕ)) → 2 ≤ L → cost L (prepend v n rs) ≤ suc (length (digits L n) + cost L rs)
 unfolding prepend
 cost-prepend L v n [] two = omega arith
 cost-prepend L v n (r ∷ rs) two =
-    ⊎_elim
-    (λ e. rw (prepend_same v n r rs e) (omega (arith, joined_digits L n r.1 two)))
-    (λ e. rw (prepend_other v n r rs e) (omega arith))
-    (cases_eq v r.0)
+    grind (arith, prepend_same v n r rs, prepend_other v n r rs, cases_eq v r.0, joined_digits L n r.1 two)
 
 pub cost_longest : (L : ℕ) (rs : List (ℕ × ℕ)) → 2 ≤ L → cost L (longest_runs (cells_of rs)) ≤ cost L rs
 cost_longest L [] two = omega arith
@@ -61,7 +55,4 @@ unfolding leading_digits runs
 spent L V [] two le h = omega arith
 spent L V (o ∷ s) two le h =
     let ih = spent L V s two le h.1 in
-    ⊎_elim
-    (λ k. rw (leading_digit V o s k, runs_digit V o s k) (omega arith))
-    (λ k. rw (leading_level V o s k, runs_level V o s k) (omega (arith, fewer L (base V) (leading_digits V s) two le (under_leading V s h.1))))
-    (cases_lt V o)
+    grind (arith, leading_level V o s, leading_digit V o s, runs_level V o s, runs_digit V o s, cases_lt V o, ih, fewer L (base V) (leading_digits V s) two le (under_leading V s h.1))

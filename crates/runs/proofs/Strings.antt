@@ -1,6 +1,5 @@
 -- Strings, their runs and the octets of runs.
 use Rattle.std.proofs.Common.{◌≡◌, ℕ, suc, ◌+◌, ◌-◌, ◌<◌, ◌≤◌, List, [], ◌∷◌, ◌++◌, map, sym, refl, ap, ◌∙◌, ⊎_elim, append-nil, add-sub_of_le, arith}
-use native.Mathlib.Nat.{add-sub_cancel_left}
 use Rattle.std.specs.List.{AllByRecursion}
 use Rattle.std.proofs.ByRecursion.{All-append, All-map, All-weaker}
 use Rattle.std.proofs.lemmas.Bool.{le-leb, lt-leb, cond-true, cond-false, cases_lt}
@@ -31,11 +30,11 @@ octet V d = suc V + d
 leading_digits_lem : (V : ℕ) (ds s : List ℕ) → leading_digits V (map (octet V) ds ++ s) ≡ ds ++ leading_digits V s
 leading_digits_lem V [] s = refl
 leading_digits_lem V (d ∷ ds) s =
-    leading_digit V (octet V d) (map (octet V) ds ++ s) (omega arith) ∙ (λ i. add-sub_cancel_left (suc V) d i ∷ leading_digits_lem V ds s i)
+    grind (arith, leading_digit, leading_digits_lem V ds s)
 
 runs_digits : (V : ℕ) (ds s : List ℕ) → runs V (map (octet V) ds ++ s) ≡ runs V s
 runs_digits V [] s = refl
-runs_digits V (d ∷ ds) s = runs_digit V (octet V d) (map (octet V) ds ++ s) (omega arith) ∙ runs_digits V ds s
+runs_digits V (d ∷ ds) s = grind (arith, runs_digit, runs_digits V ds s)
 
 -- a run with its digits
 abbrev pub with_digits : ℕ → ℕ × ℕ → ℕ × List ℕ
@@ -73,10 +72,9 @@ pub under_leading : (V : ℕ) (s : List ℕ) → AllByRecursion (λ o. o < 256) 
 unfolding leading_digits
 under_leading V [] h = tt
 under_leading V (o ∷ s) h =
-    ⊎_elim
-    (λ k. rw (leading_digit V o s k) (omega (arith, h.0), under_leading V s h.1))
-    (λ k. rw (leading_level V o s k) tt)
-    (cases_lt V o)
+    let ih = under_leading V s h.1 in
+    let first = h.0 in
+    grind (arith, leading_level V o s, leading_digit V o s, cases_lt V o)
 
 -- a string whose runs are tight is its leading digits and its runs, with_digits
 pub whole : (V : ℕ) (s : List ℕ) → V ≤ 252 → AllByRecursion (λ o. o < 256) s → AllByRecursion (λ r. Tight r.1) (runs V s) → s ≡ map (octet V) (leading_digits V s) ++ runs_octets V (map (measured V) (runs V s))

@@ -2,15 +2,16 @@
 use Rattle.std.proofs.Common.{◌≡◌, ℕ, ◌<◌, ◌≤◌, List, [], ◌∷◌, ◌++◌, map, length, sym, refl, ap, ◌∙◌, arith}
 use Rattle.std.specs.List.{AllByRecursion}
 use Rattle.std.proofs.ByRecursion.{All-weaker}
+use Rattle.std.proofs.lemmas.Simd.{map-map}
 use Rattle.runs.specs.Runs.{Begins, highest, base, leading_digits, runs, measured, cells_of}
 use Rattle.runs.specs.Canonical.{canonical, Packable, Storable, StringOf, Tight, level, longest_runs, runs_octets}
 use Rattle.runs.specs.Theorems.{CanonicalLoads, CanonicalIsCanonical, CanonicalIsOne, CanonicalIsShortest}
 use Rattle.runs.proofs.Digits.{tight_digits_by}
 use Rattle.runs.proofs.Strings.{octet, with_digits, runs_octets_lem, leading_level, measured-with_digits, small_octets, whole}
-use Rattle.runs.proofs.LongestRuns.{cells_longest, apart_longest, longest_cells, levels_longest, below_highest, highest_least, some_longest}
+use Rattle.runs.proofs.LongestRuns.{cells_longest, apart_longest, longest_cells, levels_longest, below_highest, highest_least}
 use Rattle.runs.proofs.Shortest.{cost, length_octets, cost_longest, spent}
 
-begins_octets : (V : ℕ) (rs : List (ℕ × ℕ)) → 0 < length rs → AllByRecursion (λ r. r.0 ≤ V) rs → Begins V (runs_octets V rs)
+begins_octets : (V : ℕ) (rs : List (ℕ × ℕ)) → 0 < length (cells_of rs) → AllByRecursion (λ r. r.0 ≤ V) rs → Begins V (runs_octets V rs)
 begins_octets V [] some a = absurd (omega arith)
 begins_octets V (r ∷ rs) some a = a.0
 
@@ -23,16 +24,12 @@ canonical_loads cells ok =
     let low : V ≤ 252 = highest_least 252 cells ok.low in
     record {
       octets = small_octets V (longest_runs cells) low (levels cells);
-      begins = begins_octets V (longest_runs cells) (some_longest cells ok.some) (levels cells);
+      begins = begins_octets V (longest_runs cells) (rw (cells_longest cells) ok.some) (levels cells);
       gives =
           ap (λ rs. cells_of (map (measured V) rs)) (runs_octets_lem V (longest_runs cells) (levels cells))
           ∙ ap cells_of (measured-with_digits V (longest_runs cells) low)
           ∙ cells_longest cells;
     }
-
-levels_with_digits : (V : ℕ) (rs : List (ℕ × ℕ)) → map level (map (with_digits V) rs) ≡ map level rs
-levels_with_digits V [] = refl
-levels_with_digits V (r ∷ rs) = ap (λ l. r.0 ∷ l) (levels_with_digits V rs)
 
 tight_with_digits : (V : ℕ) (rs : List (ℕ × ℕ)) → V ≤ 252 → AllByRecursion (λ r. Tight r.1) (map (with_digits V) rs)
 tight_with_digits V [] h = tt
@@ -45,13 +42,9 @@ canonical_is_canonical cells ok =
     let read = runs_octets_lem V (longest_runs cells) (levels cells) in
     record {
       reached = refl;
-      apart = rw (read, levels_with_digits V (longest_runs cells)) (apart_longest cells);
+      apart = rw (read, map-map level (with_digits V) (longest_runs cells)) (apart_longest cells);
       tight = rw read (tight_with_digits V (longest_runs cells) low);
     }
-
-levels_measured : (V : ℕ) (rs : List (ℕ × List ℕ)) → map level (map (measured V) rs) ≡ map level rs
-levels_measured V [] = refl
-levels_measured V (r ∷ rs) = ap (λ l. r.0 ∷ l) (levels_measured V rs)
 
 no_leading : (V : ℕ) (s : List ℕ) → Begins V s → leading_digits V s ≡ []
 no_leading V [] b = absurd b
@@ -61,7 +54,7 @@ pub canonical_is_one : CanonicalIsOne
 canonical_is_one V cells s ok loads is =
     let low : V ≤ 252 = omega (arith, is.reached, highest_least 252 cells ok.low) in
     let rs : List (ℕ × ℕ) = map (measured V) (runs V s) in
-    let same : longest_runs cells ≡ rs = ap longest_runs (sym loads.gives) ∙ longest_cells rs (rw (levels_measured V (runs V s)) is.apart) in
+    let same : longest_runs cells ≡ rs = ap longest_runs (sym loads.gives) ∙ longest_cells rs (rw (map-map level (measured V) (runs V s)) is.apart) in
     whole V s low loads.octets is.tight
     ∙ ap (λ f. map (octet V) f ++ runs_octets V rs) (no_leading V s loads.begins)
     ∙ ap (runs_octets V) (sym same)

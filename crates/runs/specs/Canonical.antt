@@ -1,5 +1,5 @@
 -- The canonical string of cells.
-use Rattle.std.specs.Prelude.{◌≡◌, ℕ, zero, suc, ◌+◌, ◌/◌, ◌%◌, ◌<◌, ◌≤◌, cond, List, [], ◌∷◌, ◌++◌, map, length, ◌==◌, ◌≢◌}
+use Rattle.std.specs.Prelude.{◌≡◌, ℕ, zero, suc, ◌+◌, ◌/◌, ◌%◌, ◌<◌, ◌≤◌, if◌then◌else◌, List, [], ◌∷◌, ◌++◌, map, length, ◌==◌, ◌≢◌}
 use Rattle.std.specs.List.{AllByRecursion}
 use Rattle.runs.specs.Runs.{base, runs, highest, Loadable}
 
@@ -28,7 +28,7 @@ pub record IsCanonical (V : ℕ) (cells s : List ℕ) : Type 0 where
 -- one more run in front: n cells past its first, joined to the next run if that has its level
 unfoldable pub prepend : ℕ → ℕ → List (ℕ × ℕ) → List (ℕ × ℕ)
 prepend v n [] = (v, n) ∷ []
-prepend v n (r ∷ rs) = cond (v == r.0) ((v, suc n + r.1) ∷ rs) ((v, n) ∷ r ∷ rs)
+prepend v n (r ∷ rs) = if v == r.0 then (v, suc n + r.1) ∷ rs else (v, n) ∷ r ∷ rs
 
 -- the longest runs of equal cells
 abbrev pub longest_runs : List ℕ → List (ℕ × ℕ)

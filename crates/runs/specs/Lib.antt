@@ -1,4 +1,5 @@
 pub mod Runs
+pub mod Handed
 pub mod Canonical
 pub mod StringFaults
 pub mod Theorems

@@ -1,6 +1,6 @@
 -- Run strings and the cells that they give. V is the highest level that a packing provides for: an octet up to V is
 -- a level, and one above V is a digit of value octet - (V + 1).
-use Rattle.std.specs.Prelude.{◌≡◌, ℕ, suc, ◌+◌, ◌-◌, ◌*◌, ◌<◌, ◌≤◌, max, cond, List, [], ◌∷◌, ◌++◌, map, replicate, nat_le}
+use Rattle.std.specs.Prelude.{◌≡◌, ℕ, suc, ◌+◌, ◌-◌, ◌*◌, ◌<◌, ◌≤◌, max, if◌then◌else◌, List, [], ◌∷◌, ◌++◌, map, replicate, nat_le}
 use Rattle.std.specs.List.{AllByRecursion}
 
 -- how many values a digit has
@@ -10,12 +10,12 @@ base V = 255 - V
 -- the values of the digits that a string begins with
 unfoldable pub leading_digits : ℕ → List ℕ → List ℕ
 leading_digits V [] = []
-leading_digits V (o ∷ s) = cond (nat_le o V) [] ((o - suc V) ∷ leading_digits V s)
+leading_digits V (o ∷ s) = if nat_le o V then [] else (o - suc V) ∷ leading_digits V s
 
 -- the runs of a string: each a level, with the values of the digits after it
 unfoldable pub runs : ℕ → List ℕ → List (ℕ × List ℕ)
 runs V [] = []
-runs V (o ∷ s) = cond (nat_le o V) ((o, leading_digits V s) ∷ runs V s) (runs V s)
+runs V (o ∷ s) = if nat_le o V then (o, leading_digits V s) ∷ runs V s else runs V s
 
 -- the number that digits of base L write, the least significant first
 abbrev pub digits_value : ℕ → List ℕ → ℕ

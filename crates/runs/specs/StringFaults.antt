@@ -1,5 +1,5 @@
 -- What is wrong with a string for a number of cells.
-use Rattle.std.specs.Prelude.{◌≡◌, ℕ, suc, ◌+◌, Bool, false, cond, List, [], ◌∷◌, length, Some, None, Ok, Err, Option, Result, nat_lt}
+use Rattle.std.specs.Prelude.{◌≡◌, ℕ, suc, ◌+◌, Bool, false, if◌then◌else◌, List, [], ◌∷◌, length, Some, None, Ok, Err, Option, Result, nat_lt}
 use Rattle.format.specs.Refusals.{told}
 use Rattle.format.specs.declared.fault.Layer.TheVariants as layer
 use Rattle.format.specs.declared.fault.Refusal.{Refusal}
@@ -21,12 +21,12 @@ digit_first V (o ∷ s) = nat_lt V o
 -- the first fault of the runs that begin at a place, where some cells are finished: a run passes the last of n cells,
 -- or there are no more runs and cells are left
 unfoldable pub fault_from : ℕ → ℕ → ℕ → ℕ → List (ℕ × List ℕ) → Option Flaw
-fault_from L n place done [] = cond (nat_lt done n) (Some (flaw 12 place done)) None
-fault_from L n place done (r ∷ rs) = cond (nat_lt n (done + suc (digits_value L r.1))) (Some (flaw 11 place done)) (fault_from L n (place + suc (length r.1)) (done + suc (digits_value L r.1)) rs)
+fault_from L n place done [] = if nat_lt done n then Some (flaw 12 place done) else None
+fault_from L n place done (r ∷ rs) = if nat_lt n (done + suc (digits_value L r.1)) then Some (flaw 11 place done) else fault_from L n (place + suc (length r.1)) (done + suc (digits_value L r.1)) rs
 
 -- the first fault of a string for n cells
 abbrev pub fault : ℕ → ℕ → List ℕ → Option Flaw
-fault V n s = cond (digit_first V s) (Some (flaw 10 0 0)) (fault_from (base V) n 0 0 (runs V s))
+fault V n s = if digit_first V s then Some (flaw 10 0 0) else fault_from (base V) n 0 0 (runs V s)
 
 -- the verdict on a string that begins at a place of the message, with the fields finished before it
 abbrev pub judged : ℕ → ℕ → Option Flaw → Result (Unit {0}) Refusal

@@ -20,13 +20,12 @@ value_at (a ∷ b ∷ t) (suc m) h =
     let e : suc (suc (m + m)) ≡ suc m + suc m = omega arith in
     value_at t m (omega arith) ∙ ap (λ n. Some (signed 32768 (number (take 2 (drop n (a ∷ b ∷ t)))))) e
 
-pub value_past : (t : List ℕ) (m : ℕ) → length t < suc (suc (m + m)) → slice_get (values t) m ≡ None
-value_past t m h = slice_get_past (values t) m (omega (arith, length-values t))
-
 -- a level with no value, and one with a value
 pub value_none : (p : Packing (List ℕ)) (level : ℕ) → (0 < level → length p.table < 2 * level) → None ≡ value_of p level
 value_none p zero h = refl
-value_none p (suc m) h = let past = h (omega arith) in ap (option_map (λ r. record { number = r; scale = p.scale })) (sym (value_past p.table m (omega arith)))
+value_none p (suc m) h =
+    let past = h (omega arith) in
+    ap (option_map (λ r. record { number = r; scale = p.scale })) (sym (slice_get_past (values p.table) m (omega (arith, length-values p.table))))
 
 pub value_some : (p : Packing (List ℕ)) (level : ℕ) → 0 < level → 2 * level ≤ length p.table → Some (record { number = signed 32768 (field p.table (2 * level - 1) 2); scale = p.scale }) ≡ value_of p level
 value_some p zero some h = absurd (omega arith)

@@ -1,11 +1,12 @@
 -- The verdict on a list of checks is that of the first that fails.
-use Rattle.std.proofs.Common.{◌≡◌, ℕ, Bool, true, false, cond, List, [], ◌∷◌, ◌++◌, Some, None, sym, refl, ap, ◌∙◌, arith}
+use Rattle.std.proofs.Common.{◌≡◌, ℕ, Bool, true, false, cond, List, [], ◌∷◌, ◌++◌, Some, None, sym, refl, ap, ◌∙◌}
 use Rattle.std.specs.List.{AllByRecursion}
 use Rattle.std.proofs.lemmas.Bool.{cond-true, cond-false}
+use Rattle.std.proofs.lemmas.Option.{none-some}
 use Rattle.sections.specs.Rules.{Check, Flaw, judge, FirstFails, FirstDecides}
 
 finds_first : (cs : List Check) (s : List ℕ) (t : Flaw) → judge cs s ≡ Some t → FirstFails cs s t
-finds_first [] s t e = let z : ◌≡◌ {A = ℕ} 0 1 = cc in absurd (omega arith)
+finds_first [] s t e = absurd (none-some t e)
 finds_first (c ∷ cs) s t e = go (λ h. finds_first cs s t h) (c.passes s) refl e
   where
     go : (judge cs s ≡ Some t → FirstFails cs s t) → (b : Bool) → c.passes s ≡ b → cond b (judge cs s) (Some c.tells) ≡ Some t → FirstFails (c ∷ cs) s t
@@ -28,7 +29,7 @@ all_pass (c ∷ cs) s e = go (λ h. all_pass cs s h) (c.passes s) refl e
   where
     go : (judge cs s ≡ None → AllByRecursion (λ c. c.passes s ≡ true) cs) → (b : Bool) → c.passes s ≡ b → cond b (judge cs s) (Some c.tells) ≡ None → AllByRecursion (λ c. c.passes s ≡ true) (c ∷ cs)
     go ih true p h = (p, ih h)
-    go ih false p h = let z : ◌≡◌ {A = ℕ} 0 1 = cc in absurd (omega arith)
+    go ih false p h = absurd (none-some _ (sym h))
 
 pub none_fails : (cs : List Check) (s : List ℕ) → AllByRecursion (λ c. c.passes s ≡ true) cs → judge cs s ≡ None
 none_fails [] s h = refl

@@ -1,6 +1,6 @@
 pub mod Calendar
 pub mod Rules
 pub mod Sections
-pub mod Kinds
+pub mod SectionRules
 pub mod Positions
 pub mod Values

@@ -1,11 +1,11 @@
 -- Where the cells of a frame lie.
-use Rattle.std.specs.Prelude.{ℕ, ◌+◌, ◌-◌, ◌*◌, ◌/◌, ◌%◌, ◌<◌, ◌≤◌, Bool, cond, ◌&&◌, ℤ, pos, ◌-ℤ◌, Some, None, Option, ◌==◌, int_le, nat_le, nat_lt, unsigned_abs}
+use Rattle.std.specs.Prelude.{ℕ, ◌+◌, ◌-◌, ◌*◌, ◌/◌, ◌%◌, ◌<◌, ◌≤◌, Bool, if◌then◌else◌, ◌&&◌, ℤ, pos, ◌-ℤ◌, Some, None, Option, ◌==◌, int_le, nat_le, nat_lt, unsigned_abs}
 use Rattle.sections.specs.declared.frame.Frame.{Frame}
 use Rattle.sections.specs.declared.frame.Position.{Position}
 
 -- a quotient to the nearest whole number, halves up: one more where the remainder is half the divisor or more
 abbrev pub nearest : ℕ → ℕ → ℕ
-nearest a n = a / n + cond (nat_le n (2 * (a % n))) 1 0
+nearest a n = a / n + (if nat_le n (2 * (a % n)) then 1 else 0)
 
 -- it is at most half above a / n, and less than half below it
 abbrev pub NearestHalvesUp : Type 0
@@ -13,7 +13,7 @@ NearestHalvesUp = (a n : ℕ) → 0 < n → (2 * (n * nearest a n) ≤ 2 * a + n
 
 -- how far the k-th of `count` points lies from the first, where the last lies `span` from it
 abbrev pub along : ℕ → ℕ → ℕ → ℕ
-along span count k = cond (count == 1) 0 (nearest (span * k) (count - 1))
+along span count k = if count == 1 then 0 else nearest (span * k) (count - 1)
 
 -- rows go south from the first, and columns east
 abbrev pub latitude_of : Frame → ℕ → ℤ
@@ -29,4 +29,4 @@ covers f column row = nat_lt column f.ni && (nat_lt row f.nj && (int_le f.la2 f.
 -- a cell outside has no position; nor has any where the last cell lies north or west of the first
 abbrev pub position_of : Frame → ℕ → ℕ → Option Position
 position_of f column row =
-    cond (covers f column row) (Some (record { latitude = latitude_of f row; longitude = longitude_of f column })) None
+    if covers f column row then Some (record { latitude = latitude_of f row; longitude = longitude_of f column }) else None

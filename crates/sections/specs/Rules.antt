@@ -1,6 +1,7 @@
 -- A section's checks as a list in octet order, and the first that fails.
-use Rattle.std.specs.Prelude.{◌≡◌, ℕ, ◌+◌, ◌-◌, ◌*◌, Bool, true, false, cond, ◌&&◌, ◌||◌, List, [], ◌∷◌, ◌++◌, map, length, ℤ, pos, negsuc, Some, None, Ok, Err, Option, Result, ◌==◌, int_lt, nat_eq, nat_le, nat_lt, unsigned_abs}
+use Rattle.std.specs.Prelude.{◌≡◌, ℕ, ◌+◌, ◌-◌, ◌*◌, Bool, true, false, if◌then◌else◌, ◌&&◌, ◌||◌, List, [], ◌∷◌, ◌++◌, map, length, ℤ, Some, None, Ok, Err, Option, Result, ◌==◌, int_lt, nat_eq, nat_le, nat_lt, unsigned_abs}
 use Rattle.std.specs.List.{AllByRecursion}
+use Rattle.std.specs.Ordering.{int_eq}
 use Rattle.format.specs.Numbers.{field, signed}
 use Rattle.format.specs.Refusals.{told}
 use Rattle.format.specs.declared.fault.Layer.{Layer}
@@ -25,7 +26,7 @@ check number octet test = record { tells = record { number = number; octet = oct
 -- what the first check of the list that fails tells
 abbrev pub judge : List Check → List ℕ → Option Flaw
 judge [] s = None
-judge (c ∷ cs) s = cond (c.passes s) (judge cs s) (Some c.tells)
+judge (c ∷ cs) s = if c.passes s then judge cs s else Some c.tells
 
 -- a verdict as an answer, of a layer whose octets begin at a place, where some fields are finished
 abbrev pub judged : {X : Type 0} → Layer → ℕ → ℕ → Option Flaw → X → Result X Refusal
@@ -47,18 +48,12 @@ pub record FirstDecides : Type 0 where
   pub some : (cs : List Check) (s : List ℕ) (t : Flaw) → (judge cs s ≡ Some t → FirstFails cs s t) × (FirstFails cs s t → judge cs s ≡ Some t)
   pub none : (cs : List Check) (s : List ℕ) → (judge cs s ≡ None → AllByRecursion (λ c. c.passes s ≡ true) cs) × (AllByRecursion (λ c. c.passes s ≡ true) cs → judge cs s ≡ None)
 
-abbrev pub same_z : ℤ → ℤ → Bool
-same_z (pos a) (pos b) = a == b
-same_z (pos a) (negsuc b) = false
-same_z (negsuc a) (pos b) = false
-same_z (negsuc a) (negsuc b) = a == b
-
 -- the product templates that are known, and the length of section 4 that each sets
 abbrev pub known_product : ℕ → Bool
 known_product t = t == 0 || (t == 50008 || (t == 50011 || t == 50009))
 
 abbrev pub product_length : List ℕ → ℕ
-product_length s = cond (field s 8 2 == 0) 34 (cond (field s 8 2 == 50009) (85 + 2 * field s 83 2) 82)
+product_length s = if field s 8 2 == 0 then 34 else if field s 8 2 == 50009 then 85 + 2 * field s 83 2 else 82
 
 -- the latitude in four octets
 abbrev pub latitude_at : List ℕ → ℕ → ℤ
@@ -79,8 +74,8 @@ check_of (rule.AtMost octet most) = check 9 octet (λ s. nat_le (field s octet 2
 check_of (rule.Day octet year month) = check 9 octet (λ s. nat_le 1 (field s octet 1) && nat_le (field s octet 1) (days_in (field s year 2) (field s month 1)))
 check_of (rule.Latitude octet) = check 9 octet (λ s. nat_le (unsigned_abs (latitude_at s octet)) 90000000)
 check_of (rule.Cells octet columns points) = check 9 octet (λ s. nat_eq (field s columns 4 * field s octet 4) (field s points 4))
-check_of (rule.South octet first count) = check 9 octet (λ s. cond (field s count 4 == 1) (same_z (latitude_at s octet) (latitude_at s first)) (int_lt (latitude_at s octet) (latitude_at s first)))
-check_of (rule.East octet first count) = check 9 octet (λ s. cond (field s count 4 == 1) (field s octet 4 == field s first 4) (nat_lt (field s first 4) (field s octet 4)))
+check_of (rule.South octet first count) = check 9 octet (λ s. if field s count 4 == 1 then int_eq (latitude_at s octet) (latitude_at s first) else int_lt (latitude_at s octet) (latitude_at s first))
+check_of (rule.East octet first count) = check 9 octet (λ s. if field s count 4 == 1 then field s octet 4 == field s first 4 else nat_lt (field s first 4) (field s octet 4))
 
 abbrev pub checks_for : List Rule → List Check
 checks_for rules = map check_of rules

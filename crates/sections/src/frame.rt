@@ -7,7 +7,7 @@ use crate::rules::latitude;
 use format::numbers::field;
 
 /// A grid of latitude and longitude. Angles are in millionths of a degree.
-#[derive(Clone, Copy)]
+#[derive(Clone, Copy, PartialEq, Eq, Debug)]
 pub struct Frame {
     /// The cells in a row, from west to east.
     pub ni: u32,
@@ -24,6 +24,7 @@ pub struct Frame {
     pub dj: u32,
 }
 
+// no `From<&[u8]>`: that would say it of any octets, and this names the section
 /// The frame that section 3 says.
 pub fn frame_of(section: &[u8]) -> Frame
     ensures { result ≡ frame_of section.now }
@@ -41,7 +42,7 @@ pub fn frame_of(section: &[u8]) -> Frame
 }
 
 /// Where a cell lies, in millionths of a degree.
-#[derive(Clone, Copy)]
+#[derive(Clone, Copy, PartialEq, Eq, Debug)]
 pub struct Position {
     pub latitude: i32,
     pub longitude: u32,
@@ -90,6 +91,7 @@ impl Frame {
         self.lo1 + along(self.lo2 - self.lo1, self.ni, column)
     }
 
+    // two numbers and no struct: a place of 32 bits here, and of a chart elsewhere, would be made to be taken apart
     /// Where the cell of a column and a row lies, both counted from 0; a cell outside has no position, and no cell of
     /// a frame whose last cell lies north or west of its first has one.
     pub fn position(&self, column: u32, row: u32) -> Option<Position>

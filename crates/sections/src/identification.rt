@@ -5,7 +5,7 @@ ghost use Rattle.sections.specs.Sections.{identification_of};
 use format::numbers::field;
 
 /// What section 1 says, from its octet 6 on.
-#[derive(Clone, Copy)]
+#[derive(Clone, Copy, PartialEq, Eq, Debug)]
 pub struct Identification {
     /// The originating centre.
     pub centre: u16,
@@ -30,6 +30,7 @@ pub struct Identification {
     pub kind: u8,
 }
 
+// no `From<&[u8]>`: that would say it of any octets, and this names the section
 /// What section 1 says.
 pub fn identification_of(section: &[u8]) -> Identification
     ensures { result ≡ identification_of section.now }

@@ -1,11 +1,10 @@
 //! Section 5: how the levels are packed, and which values they stand for.
 ghost use Rattle.std.specs.Prelude.{◌≡◌, length};
-ghost use Rattle.format.specs.Numbers.{field, signed};
 ghost use Rattle.sections.specs.Sections.{packing_of, held_packing};
 ghost use Rattle.sections.specs.Values.{values, value_of};
 
-use crate::parts::from_place;
-use format::numbers::{TOP_OF_TWO, field, signed};
+use crate::parts::{from_place, signed_field};
+use format::numbers::field;
 
 /// What section 5 says; `P` holds a part of the octets.
 #[derive(Clone, Copy)]
@@ -18,11 +17,13 @@ pub struct Packing<P> {
     pub table: P,
 }
 
+// no `From<&[u8]>`: that would say it of any octets, and this names the section
 /// What section 5 says.
 pub fn packing_of(section: &[u8]) -> Packing<&[u8]>
     ensures { held_packing result ≡ packing_of section.now }
 {
     Packing {
+        // 255 for any V above: the string layer takes an octet and asks nothing of it
         v: field(section, 13, 2).min(255) as u8,
         scale: field(section, 17, 1) as u8,
         table: from_place(section, 17),
@@ -30,17 +31,10 @@ pub fn packing_of(section: &[u8]) -> Packing<&[u8]>
 }
 
 /// The value that a level stands for: `number` divided by ten as often as `scale` says.
-#[derive(Clone, Copy)]
+#[derive(Clone, Copy, PartialEq, Eq, Debug)]
 pub struct Value {
     pub number: i32,
     pub scale: u8,
-}
-
-/// The signed number in two octets.
-fn entry(table: &[u8], octet: usize) -> i32
-    ensures { result ≡ signed 32768 (field table.now octet 2) }
-{
-    signed(field(table, octet, 2) as u32, TOP_OF_TWO) as i32
 }
 
 impl Packing<&[u8]> {
@@ -60,7 +54,7 @@ impl Packing<&[u8]> {
             return None;
         }
         Some(Value {
-            number: entry(self.table, last - 1),
+            number: signed_field::<2>(self.table, last - 1),
             scale: self.scale,
         })
     }

@@ -1,5 +1,6 @@
 //! The rules that sections are checked by, each told at its field's first octet.
-ghost use Rattle.std.specs.Prelude.{◌≡◌, ℕ, ◌==◌};
+ghost use Rattle.std.specs.Prelude.{◌≡◌, ℕ, ◌==◌, if◌then◌else◌, int_lt};
+ghost use Rattle.std.specs.Ordering.{int_eq};
 ghost use Rattle.format.specs.Numbers.{field, signed};
 ghost use Rattle.format.specs.Refusals.{refused_in_section, section_number};
 ghost use Rattle.format.specs.declared.fault.Layer.TheVariants as layer;
@@ -7,11 +8,13 @@ ghost use Rattle.sections.specs.declared.rules.Rule.TheVariants as rule;
 ghost use Rattle.sections.specs.Calendar.{days_in};
 ghost use Rattle.sections.specs.Rules.{judge, judged, check_of, checks_for, product_length, FirstDecides};
 
+use crate::parts::signed_field;
 use format::fault::{InSection, SectionFault, Spot, Start};
-use format::numbers::{TOP_OF_FOUR, field, signed};
+use format::numbers::field;
+use format::section::Section;
 
 /// A field of one value: its first octet counted from 1, its width in octets, and the value.
-#[derive(Clone, Copy)]
+#[derive(Clone, Copy, PartialEq, Eq, Debug)]
 pub struct Row {
     pub octet: u16,
     pub width: u8,
@@ -19,7 +22,7 @@ pub struct Row {
 }
 
 /// A rule that a section keeps or breaks. Octets are counted from 1.
-#[derive(Clone, Copy)]
+#[derive(Clone, Copy, PartialEq, Eq, Debug)]
 pub enum Rule {
     /// The section has so many octets.
     Length(u32),
@@ -85,7 +88,7 @@ pub enum Rule {
 pub(crate) fn latitude(section: &[u8], octet: u16) -> i32
     ensures { result ≡ signed 2147483648 (field section.now octet 4) }
 {
-    signed(field(section, octet as usize, 4) as u32, TOP_OF_FOUR) as i32
+    signed_field::<4>(section, octet as usize)
 }
 
 /// The days of a month from 1 to 12 in the Gregorian calendar.
@@ -117,42 +120,42 @@ impl Rule {
     fn keeps(self, section: &[u8]) -> bool
         ensures { result ≡ (check_of self).passes section.now }
     {
+        // a match and no closures: the rules are constants, which contracts read and a packer writes from
+        let at = |octet: u16, width: usize| field(section, usize::from(octet), width);
         match self {
             Rule::Length(octets) => section.len() == octets as usize,
             Rule::LengthFrom(octets) => section.len() >= octets as usize,
             Rule::ProductLength => section.len() == product_length(section),
-            Rule::TableLength => section.len() == 17 + 2 * field(section, 15, 2) as usize,
+            Rule::TableLength => section.len() == 17 + 2 * at(15, 2) as usize,
             Rule::Fixed(row) | Rule::Template(row) | Rule::Equals(row) => row.stands(section),
-            Rule::ProductTemplate { octet } => matches!(
-                field(section, octet as usize, 2),
-                0 | 50008 | 50011 | 50009
-            ),
+            Rule::ProductTemplate { octet } => matches!(at(octet, 2), 0 | 50008 | 50011 | 50009),
             Rule::Within {
                 octet,
                 width,
                 low,
                 high,
             } => within_keeps(section, octet, width, low, high),
-            Rule::AtMost { octet, most } => field(section, octet as usize, 2)
-                <= field(section, most as usize, 2),
+            Rule::AtMost { octet, most } => at(octet, 2) <= at(most, 2),
             Rule::Day { octet, year, month } => day_keeps(section, octet, year, month),
             Rule::Latitude { octet } => latitude(section, octet).unsigned_abs() <= 90_000_000,
             Rule::Cells {
                 octet,
                 columns,
                 points,
-            } => field(section, columns as usize, 4) * field(section, octet as usize, 4)
-                == field(section, points as usize, 4),
+            } => at(columns, 4) * at(octet, 4) == at(points, 4),
             Rule::South {
                 octet,
                 first,
                 count,
-            } => south_keeps(section, octet, first, count),
+            } => {
+                let (here, there) = (latitude(section, octet), latitude(section, first));
+                lie_in_order(at(count, 4), here.into(), there.into())
+            },
             Rule::East {
                 octet,
                 first,
                 count,
-            } => east_keeps(section, octet, first, count),
+            } => lie_in_order(at(count, 4), at(first, 4) as i64, at(octet, 4) as i64),
         }
     }
 
@@ -164,7 +167,7 @@ impl Rule {
             Rule::Length(_) | Rule::LengthFrom(_) | Rule::ProductLength | Rule::TableLength =>
                 SectionFault::Length,
             Rule::Fixed(_) => SectionFault::Fixed,
-            Rule::Template(_) | Rule::ProductTemplate { octet: _ } => SectionFault::Template,
+            Rule::Template(_) | Rule::ProductTemplate { .. } => SectionFault::Template,
             _ => SectionFault::Value,
         }
     }
@@ -176,34 +179,14 @@ impl Rule {
         match self {
             Rule::Length(_) | Rule::LengthFrom(_) | Rule::ProductLength | Rule::TableLength => 1,
             Rule::Fixed(row) | Rule::Template(row) | Rule::Equals(row) => row.octet,
-            Rule::ProductTemplate { octet } | Rule::Latitude { octet } => octet,
-            Rule::Within {
-                octet,
-                width: _,
-                low: _,
-                high: _,
-            } => octet,
-            Rule::AtMost { octet, most: _ } => octet,
-            Rule::Day {
-                octet,
-                year: _,
-                month: _,
-            } => octet,
-            Rule::Cells {
-                octet,
-                columns: _,
-                points: _,
-            } => octet,
-            Rule::South {
-                octet,
-                first: _,
-                count: _,
-            } => octet,
-            Rule::East {
-                octet,
-                first: _,
-                count: _,
-            } => octet,
+            Rule::ProductTemplate { octet }
+            | Rule::Within { octet, .. }
+            | Rule::AtMost { octet, .. }
+            | Rule::Day { octet, .. }
+            | Rule::Latitude { octet }
+            | Rule::Cells { octet, .. }
+            | Rule::South { octet, .. }
+            | Rule::East { octet, .. } => octet,
         }
     }
 }
@@ -235,46 +218,30 @@ fn day_keeps(section: &[u8], octet: u16, year: u16, month: u16) -> bool
     1 <= day && day <= days
 }
 
-fn south_keeps(section: &[u8], octet: u16, first: u16, count: u16) -> bool
-    ensures { result ≡ (check_of (rule.South octet first count)).passes section.now }
+/// Whether `low` and `high`, the ends of so many numbers, are equal where there is one number, and else rise.
+fn lie_in_order(count: u64, low: i64, high: i64) -> bool
+    ensures { result ≡ if count == 1 then int_eq low high else int_lt low high }
 {
-    let here = latitude(section, octet);
-    let there = latitude(section, first);
-    if field(section, count as usize, 4) == 1 {
-        here == there
-    } else {
-        here < there
-    }
+    if count == 1 { low == high } else { low < high }
 }
 
-fn east_keeps(section: &[u8], octet: u16, first: u16, count: u16) -> bool
-    ensures { result ≡ (check_of (rule.East octet first count)).passes section.now }
-{
-    let here = field(section, octet as usize, 4);
-    let there = field(section, first as usize, 4);
-    if field(section, count as usize, 4) == 1 {
-        here == there
-    } else {
-        here > there
-    }
-}
-
-/// The first of the rules that a section of that number breaks.
+// octets and start, as in `check_section` and a string's check: a type of both would ask of callers that no place in it wraps
+/// The first of the rules that the octets of a section break.
 pub fn check_rules(
-    section: &[u8],
-    number: u8,
+    section: Section,
+    octets: &[u8],
     start: Start,
     rules: &[Rule],
 ) -> Result<(), InSection>
-    ensures first { refused_in_section result ≡ judged (layer.Section number) start.place start.fields (judge (checks_for rules.now) section.now) tt }
+    ensures first { refused_in_section result ≡ judged (layer.Section section) start.place start.fields (judge (checks_for rules.now) octets.now) tt }
     ensures law { FirstDecides }
 {
     for rule in rules {
-        if !rule.keeps(section) {
+        if !rule.keeps(octets) {
             let place = start.place as usize + (rule.octet() as usize).saturating_sub(1);
             return Err(InSection::Own {
                 fault: rule.fault(),
-                section: number,
+                section,
                 at: Spot {
                     place,
                     fields: start.fields,

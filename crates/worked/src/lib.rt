@@ -32,8 +32,7 @@ mod tests {
     use format::fault::Start;
     use loader::holder::Loader;
     use loader::packed::Packed;
-    use runs::checking::check_string;
-    use runs::measuring::canonical_length;
+    use runs::reading::RunString;
     use std::test::Fail;
 
     const MESSAGE: &[u8] = b"GRIB\xff\xff\x00\x02\x00\x00\x00\x00\x00\x00\x00\xb7\
@@ -45,15 +44,19 @@ mod tests {
         \x00\x00\x00\x15\x05\x00\x00\x00\x05\x00\xc8\x08\x00\x02\x00\x02\x01\x00\x0a\x00\x14\
         \x00\x00\x00\x06\x06\xff\x00\x00\x00\x09\x07\x00\x05\x02\x047777";
 
+    fn string(octets: &[u8], v: u8) -> RunString<'_> {
+        RunString { octets, v }
+    }
+
     #[test]
     fn strings(rt: HostRuntime) -> Result<(), Fail> {
         let start = Start {
             place: 100,
             fields: 0,
         };
-        assert!(rt; check_string(&[0, 5, 2, 4], 2, 5, start).is_ok());
-        assert!(rt; canonical_length(&[0, 0, 0, 2, 3, 2], 2) == Some(4));
-        let Err(fault) = check_string(&[0, 4], 2, 3, start) else {
+        assert!(rt; string(&[0, 5, 2, 4], 2).check(5, start).is_ok());
+        assert!(rt; string(&[0, 0, 0, 2, 3, 2], 2).canonical_length() == Some(4));
+        let Err(fault) = string(&[0, 4], 2).check(3, start) else {
             return Err(Fail::new("a string that is over early"));
         };
         assert!(rt; fault.at.place == 102 && fault.cells == 2);

@@ -1,27 +1,28 @@
-use Rattle.std.proofs.Common.{◌≡◌, ℕ, ◌*◌, ◌∙◌, subst, arith}
-use Rattle.charts.specs.Pictures.{Picture, RunAt}
-use Rattle.charts.proofs.Filling.{one_more, all_filled}
+use Rattle.std.proofs.Common.{◌≡◌, ◌*◌, ◌∙◌, take, sym, subst, arith}
+use Rattle.charts.specs.Pictures.{Picture}
+use Rattle.charts.specs.ChartRuns.{cells_of}
+use Rattle.charts.proofs.Filling.{one_more}
+use Rattle.charts.proofs.Walks.{goes_on}
 use Rattle.charts.proofs.levels.write_levels.Goals as goal
 
 pub loop-cell-preserved : goal.loop-cell-preserved
 loop-cell-preserved g c =
-    let m = g.C.Chart in
-    let p : Picture = m.picture c.args.chart.now in
-    let kept = c.loop-cell.invariant.2 in
-    let q : ℕ = c.loop-cell.cell in
-    let n : ℕ = c.run-run.result.length in
-    let answer : RunAt p q c.run-run.result.level n = subst (λ (x : Picture). RunAt x q c.run-run.result.level n) kept c.run-run.ensures.answer in
-    let full = (m.lawful c.args.chart.now).full in
-    let count : c.size.result.width * c.size.result.height ≡ p.width * p.height = cc in
-    let end = answer.within (omega arith) in
-    (omega arith, one_more c.loop-cell.buffer c.fill.new.self p.levels q n c.run-run.result.level c.loop-cell.invariant.1 (omega arith) (omega arith) (c.fill.ensures.after (λ y e. e)) answer.same, c.run-run.ensures.same ∙ kept)
-
-pub returns : goal.returns
-returns g c =
-    let p : Picture = g.C.Chart.picture c.args.chart.now in
-    let full = (g.C.Chart.lawful c.args.chart.now).full in
-    let count : c.size.result.width * c.size.result.height ≡ p.width * p.height = cc in
+    let chart = c.into_iter-cell-iterator.result.chart.now in
+    let p : Picture = g.C.Chart.picture chart in
+    let kept = c.loop-cell.invariant in
+    let walk = c.in-Some.ensures.steps in
+    let run = c.in-Some.run' in
+    let q = c.in-Some.cell in
+    let on = goes_on g.C.Chart.picture p _ (q, run) _ kept.same walk in
+    let at : take q c.loop-cell.buffer ≡ take q p.levels = subst (λ n. take n c.loop-cell.buffer ≡ take n p.levels) (sym walk.step.0) kept.written in
+    let end = on.answer.within on.inside in
+    let full = (g.met.C.Chart.lawful chart).full in
+    let count : c.size.result.width * c.size.result.height ≡ cells_of p = cc in
     record {
-      levels = all_filled c.loop-cell.buffer p.levels c.loop-cell.cell c.loop-cell.invariant.1 (omega arith) (omega arith);
-      same = c.loop-cell.invariant.2;
+      can_next = tt;
+      is_finite = tt;
+      same_reference = walk.same_reference ∙ kept.same_reference;
+      same = walk.same ∙ kept.same;
+      within = rw on.behind end;
+      written = rw on.behind (one_more c.loop-cell.buffer c.fill.new.self p.levels q run.length run.level at (omega arith) (omega arith) (c.fill.ensures.after (λ y e. e)) on.answer.same);
     }

@@ -1,10 +1,7 @@
-use Rattle.std.proofs.Common.{◌≡◌, ℕ, ◌+◌, ◌-◌, ◌^◌, ◌<◌, min, List, length, take, drop, ap, ◌∙◌, subst, arith, length-take}
+use Rattle.std.proofs.Common.{◌≡◌, ℕ, ◌+◌, ◌-◌, ◌^◌, ◌<◌, min, List, length, take, drop, ap, ◌∙◌, subst, arith}
 use Rattle.format.specs.Numbers.{number}
 use Rattle.format.proofs.Parts.{part, part_bound}
 use Rattle.format.proofs.numbers.field.Goals as goal
-
-pub number-requires : goal.number-requires
-number-requires c = omega (arith, length-take (c.min-first.result + c.min-count.result - c.min-first.result) (drop c.min-first.result c.args.octets.now))
 
 pub returns : goal.returns
 returns c =

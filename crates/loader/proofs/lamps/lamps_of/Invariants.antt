@@ -4,7 +4,7 @@ use Rattle.sections.specs.Values.{value_of}
 use Rattle.loader.specs.Lamps.{lamp}
 use Rattle.loader.proofs.lamps.lamps_of.Given as goal
 
-abbrev pub invariant-loop-level : goal.invariant-loop-level
-invariant-loop-level l =
+abbrev pub invariant-loop-code : goal.invariant-loop-code
+invariant-loop-code l =
     (length l.map.table ≡ 256)
-    × ((k : ℕ) → k < l.level → get_or l.map.table k 0 ≡ lamp l.bounds (value_of (held_packing l.packing) k))
+    × ((k : ℕ) → k < l.code → get_or l.map.table k 0 ≡ lamp l.bounds (value_of (held_packing l.packing) k))

@@ -1,9 +1,10 @@
-use Rattle.std.proofs.Common.{◌+◌, sym, ap, ◌∙◌, arith}
+use Rattle.std.proofs.Common.{arith}
 use Rattle.std.proofs.lemmas.Slice.{between_to_end}
-use Rattle.std.proofs.lemmas.Bool.{both_ways}
+use Rattle.std.proofs.lemmas.Bool.Decides.{not_from_Decides}
+use Rattle.std.proofs.lemmas.Grind.{common_steps}
 use Rattle.std.proofs.lemmas.Result.{err_from_is_err_and}
 use Rattle.messages.proofs.Composed.{message_laws}
-use Rattle.messages.proofs.Counting.{start, head_refuses, trails, ends, fails, shorter, goes, one_made, some_made, none_made}
+use Rattle.messages.proofs.Counting.{start, head_refuses, trails, ends, fails, shorter, goes, made_count}
 use Rattle.messages.proofs.reading.check_message.Goals as goal
 use Rattle.messages.proofs.reading.check_message.Goals.{then-is_some, else-is_some}
 
@@ -24,16 +25,13 @@ returns-then-at_end c = record { counts = ends c.loop-last.invariant (c.at_end.e
 pub returns-in_err-step : goal.returns-in_err-step
 returns-in_err-step c =
     let p = err_from_is_err_and c.from_residual-in_err-step.result c.from_residual-in_err-step.ensures.1 in
-    record { counts = rw (p.1, p.2) (fails c.loop-last.invariant _ (λ e. both_ways _ c.if-at_end.false (c.at_end.ensures.1 e)) c.in_err-step.ensures); laws = message_laws }
+    record { counts = rw (p.1, p.2) (fails c.loop-last.invariant _ (not_from_Decides _ c.at_end.ensures c.if-at_end.false) c.in_err-step.ensures); laws = message_laws }
 
 pub loop-last-smaller : goal.loop-last-smaller
-loop-last-smaller c = shorter c.loop-last.invariant _ (λ e. both_ways _ c.if-at_end.false (c.at_end.ensures.1 e)) c.in_ok-step.ensures
+loop-last-smaller c = shorter c.loop-last.invariant _ (not_from_Decides _ c.at_end.ensures c.if-at_end.false) c.in_ok-step.ensures
 
 pub loop-last-preserved : goal.loop-last-preserved
 loop-last-preserved c =
     let made = c.in_ok-step.step.made in
-    goes c.loop-last.invariant _ _ (λ e. both_ways _ c.if-at_end.false (c.at_end.ensures.1 e)) c.in_ok-step.ensures (one_made made)
-    (elim c.if-is_some.branch [
-      | then-is_some w ↦ w.fields-is ∙ ap (λ n. c.loop-last.fields + n) (sym (some_made made (sym c.is_some.ensures ∙ w.if-is_some.true)))
-      | else-is_some w ↦ w.fields-is ∙ sym (omega (arith, none_made made (sym c.is_some.ensures ∙ w.if-is_some.false)))
-    ])
+    goes c.loop-last.invariant _ _ (not_from_Decides _ c.at_end.ensures c.if-at_end.false) c.in_ok-step.ensures (grind (arith, common_steps, made_count made))
+    (grind (arith, common_steps, made_count made, c.if-is_some.branch))

@@ -10,9 +10,6 @@ share c =
     let e : c.nearest.result ≡ nearest (c.args.span * c.args.k) (c.args.count - 1) = c.nearest.ensures ∙ (λ i. nearest (c.from.ensures i * c.from-2.ensures i) (c.from-3.ensures i)) in
     (e, rw e (share_most c.args.span c.args.k (c.args.count - 1) (omega arith) (omega arith)))
 
-pub overflow_cast-result : goal.overflow_cast-result
-overflow_cast-result c = omega (arith, (share c).1)
-
 pub returns : goal.returns
 returns c = record {
   value = (share c).0 ∙ sym (cond-false _ _ _ (ne_eqb c.args.count 1 c.if-count-eq1.false));

@@ -1,14 +1,10 @@
-use Rattle.std.proofs.Common.{ap, arith}
-use Rattle.charts.specs.Recodings.{recoded}
+use Rattle.std.proofs.Common.{arith}
 use Rattle.charts.proofs.Codes.{run_recoded}
 use Rattle.charts.proofs.recoding.RecodingChart.run.Goals as goal
 
-pub returns : goal.returns
-returns g c =
+pub returns-clause-answer : goal.returns-clause-answer
+returns-clause-answer g c =
     let m = g.C.Chart in
     let self = c.args.self.now in
     let run = c.run-run in
-    record {
-      answer = run_recoded self.map.table (m.picture self.below) c.args.cell run.result.level c.level.result run.result.length (m.lawful self.below) run.ensures.answer (omega arith) c.level.ensures;
-      same = ap (recoded self.map.table) run.ensures.same;
-    }
+    run_recoded self.map.table (m.picture self.below) c.args.cell run.result.level c.level.result run.result.length (g.met.C.Chart.lawful self.below) run.ensures.answer (omega arith) c.level.ensures

@@ -1,15 +1,12 @@
-use Rattle.std.proofs.Common.{[], ◌∷◌, refl, arith}
+use Rattle.std.proofs.Common.{◌*◌, [], ◌∷◌, sym, ◌∙◌, ap₂}
 use Rattle.runs.specs.Runs.{leading_digits, runs}
-use Rattle.runs.proofs.Levels.{loaded_low}
-use Rattle.loader.proofs.Steps.{stands_none}
+use Rattle.charts.specs.Pictures.{pictured}
 use Rattle.loader.proofs.packed.Packed.new.Goals as goal
 
-pub invariant_of-result-2 : goal.invariant_of-result-2
+pub at_start-requires : goal.at_start-requires
 unfolding leading_digits runs
-invariant_of-result-2 c =
-    let k = stands_none 0 1 (0 ∷ []) refl refl in
-    record { full = refl; octets = λ j. omega (arith, loaded_low 0 (0 ∷ []) j); begins = k.led; led = k.led; left = k.left; rest = k.rest; hand = k.hand }
+at_start-requires c = sym (ap₂ (λ w h. w * h) c.default.ensures.0 c.default.ensures.1)
 
 pub returns : goal.returns
 unfolding leading_digits runs
-returns c = refl
+returns c = c.at_start.ensures.picture ∙ ap₂ (λ w h. pictured w h (0 ∷ [])) c.default.ensures.0 c.default.ensures.1

@@ -1,20 +1,16 @@
-use Rattle.std.proofs.Common.{◌*◌, arith}
+use Rattle.std.proofs.Common.{◌*◌, drop, ap, ◌∙◌, drop-drop, arith}
+use Rattle.runs.specs.Handed.{cells_in, cells_ahead}
 use Rattle.loader.specs.declared.packed.Packed.{Packed}
-use Rattle.loader.proofs.Steps.{Stands, place_inside, stands_more}
+use Rattle.loader.proofs.Steps.{Stands, stands_more, is_end}
 use Rattle.loader.proofs.packed.Packed.next_run.Goals as goal
 
-stands : (p : Packed) → Stands p.v p.string.now (p.size.width * p.size.height) p.place p.first p.end p.level
-stands p = record { led = p.led; left = p.left; rest = p.rest; hand = p.hand }
-
-pub overflow_add-self : goal.overflow_add-self
-overflow_add-self c = let inside = place_inside (stands c.args.self.now) c.requires in omega arith
-
-pub bounds-self-self : goal.bounds-self-self
-bounds-self-self c = place_inside (stands c.args.self.now) c.requires
+stands : (p : Packed) → Stands (cells_in p.string) (cells_ahead p.runs) (p.size.width * p.size.height) p.first p.end p.level
+stands p = record { left = p.left; rest = p.rest; hand = p.hand }
 
 pub invariant_of-self : goal.invariant_of-self
 invariant_of-self c =
-    let r = c.read_run-run in
     let self = c.args.self.now in
-    let k = stands_more (stands self) c.requires 4_294_967_296 r.result.cells r.result.next (omega arith) r.ensures.cells r.ensures.next in
-    record { full = self.full; octets = self.octets; begins = self.begins; led = k.led; left = k.left; rest = k.rest; hand = k.hand }
+    let out = c.in-Some.ensures.steps in
+    let k = stands_more (cells_ahead c.next.new.self) (stands self) out.cells.0 c.in-Some.run'.level out.cells.2 c.in-Some.run'.cells (omega (arith, self.size.sized)) out.cells.1 in
+    let s = self.string.octets.now in
+    record { full = self.full; octets = self.octets; ends = (out.v ∙ self.ends.0, is_end s _ _ (out.rest ∙ ap (drop c.in-Some.run'.octets) self.ends.1 ∙ drop-drop _ _ s)); left = k.left; rest = k.rest; hand = k.hand }

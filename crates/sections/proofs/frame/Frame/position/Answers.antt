@@ -1,15 +1,11 @@
-use Rattle.std.proofs.Common.{◌≡◌, Bool, true, false, ◌&&◌, ltb, leb, Some, sym, refl, ap, ◌∙◌, arith, w32, SFits, rules}
+use Rattle.std.proofs.Common.{◌≡◌, true, false, ltb, leb, Some, sym, refl, ◌∙◌, arith, w32, SFits, rules}
 use lib.Signed.{le_z}
 use Rattle.std.proofs.lemmas.Int.{to_z-of_z, ints}
-use Rattle.std.proofs.lemmas.Bool.{cond-true, cond-false, le-leb, lt-leb, lt-ltb, le-ltb}
+use Rattle.std.proofs.lemmas.Bool.{and_left, and_right, cond-true, cond-false, le-leb, lt-leb, lt-ltb, le-ltb}
 use Rattle.sections.specs.Positions.{covers}
 use Rattle.sections.proofs.Nearest.{halves_up}
 use Rattle.sections.proofs.frame.Frame.position.Goals as goal
 use Rattle.sections.proofs.frame.Frame.position.Goals.{then-column-self-via-then-column-self, then-column-self-via-else-column-self+then-row-self, then-column-self-via-else-column-self+else-row-self+then-self, then-column-self-via-else-column-self+else-row-self+else-self+then-self-2}
-
-right : (x y : Bool) → y ≡ false → (x && y) ≡ false
-right true y e = e
-right false y e = refl
 
 pub returns-then-column-self : goal.returns-then-column-self
 returns-then-column-self c =
@@ -19,10 +15,10 @@ returns-then-column-self c =
     let east = leb f.lo1 f.lo2 in
     let out : covers f c.args.column c.args.row ≡ false =
     elim c.then-column-self.branch [
-      | then-column-self-via-then-column-self w ↦ ap (λ b. b && (row && (south && east))) (le-ltb _ _ w.if-column-self.true)
-      | then-column-self-via-else-column-self+then-row-self w ↦ right _ _ (ap (λ b. b && (south && east)) (le-ltb _ _ w.if-row-self.true))
-      | then-column-self-via-else-column-self+else-row-self+then-self w ↦ let north : south ≡ false = grind (arith, ints, w.if-self.true) in right _ _ (right row _ (ap (λ b. b && east) north))
-      | then-column-self-via-else-column-self+else-row-self+else-self+then-self-2 w ↦ right _ _ (right row _ (right south _ (lt-leb _ _ w.if-self-2.true)))
+      | then-column-self-via-then-column-self w ↦ and_left _ _ (le-ltb _ _ w.if-column-self.true)
+      | then-column-self-via-else-column-self+then-row-self w ↦ and_right _ _ (and_left _ _ (le-ltb _ _ w.if-row-self.true))
+      | then-column-self-via-else-column-self+else-row-self+then-self w ↦ let north : south ≡ false = grind (arith, ints, w.if-self.true) in and_right _ _ (and_right row _ (and_left _ east north))
+      | then-column-self-via-else-column-self+else-row-self+else-self+then-self-2 w ↦ and_right _ _ (and_right row _ (and_right south _ (lt-leb _ _ w.if-self-2.true)))
     ] in
     record { position = sym (cond-false _ _ _ out); rounds = halves_up }
 

@@ -16,6 +16,6 @@ returns-then-level-eq0 c =
 
 pub returns : goal.returns
 returns c =
-    let fits : SFits w32 c.entry.result = search rules in
-    let number = to_z-of_z w32 c.entry.result fits ∙ c.entry.ensures ∙ ap (λ n. signed 32768 (field c.args.self.now.table.now (2 * n - 1) 2)) c.from-last.ensures in
+    let fits : SFits w32 c.signed_field.result = search rules in
+    let number = to_z-of_z w32 c.signed_field.result fits ∙ c.signed_field.ensures ∙ ap (λ n. signed 32768 (field c.args.self.now.table.now (2 * n - 1) 2)) c.from-last.ensures in
     (λ i. Some (record { number = number i; scale = c.args.self.now.scale })) ∙ value_some (held_packing c.args.self.now) c.args.level (omega arith) (omega arith)
