@@ -1,5 +1,5 @@
 //! The listing of a message.
-ghost use Rattle.std.specs.Prelude.{◌≡◌, ◌^◌, ◌<◌, length, Some};
+ghost use Rattle.std.specs.Prelude.{◌≡◌, Some};
 ghost use Rattle.std.specs.Fmt.{WritesOnOk};
 ghost use Rattle.std.specs.List.{AllByRecursion};
 ghost use Rattle.messages.specs.Lawful.{LawfulField};
@@ -23,8 +23,7 @@ pub struct Listing<'a> {
 
 /// Writes the lines of each field that is still to come.
 fn write_fields<W: fmt::Write>(f: &mut fmt::Formatter<W>, fields: Fields) -> fmt::Result
-    requires lawful { AllByRecursion LawfulField (ahead fields) }
-    requires few { length (ahead fields) < 2 ^ 64 }
+    requires { AllByRecursion LawfulField (ahead fields) }
     ensures { WritesOnOk W.write_str_gives f.old result (fields_lines 0 (ahead fields.entry)) f.new }
 {
     for (number, field) in fields.enumerate() {

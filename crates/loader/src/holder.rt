@@ -47,7 +47,7 @@ impl<'a> Held<'a> {
     }
 }
 
-// no `Model` here, of the fields to come and of a field's chart: they are copied, which asks a way back from the value
+// no `Model`, nor of `Fields` and `Packed`: a copied type with one needs a way back from what is seen to its parts
 /// The message that was loaded last; a new loader holds none.
 #[derive(Clone, Copy)]
 pub struct Loader<'a> {
