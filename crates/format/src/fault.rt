@@ -4,8 +4,6 @@ ghost use Rattle.format.specs.declared.fault.Fault.TheVariants as fault;
 ghost use Rattle.format.specs.declared.fault.InSection.TheVariants as section;
 ghost use Rattle.format.specs.Refusals.{refusal, section_refusal, told};
 
-use crate::section::Section;
-
 /// A fault of a message as a whole.
 #[derive(Clone, Copy, PartialEq, Eq, Debug)]
 pub enum MessageFault {
@@ -88,12 +86,12 @@ pub struct InString {
     pub cells: usize,
 }
 
-/// A section's own fault, with the section, or that of the string in it.
+/// A section's own fault, with the section's number, or that of the string in it.
 #[derive(Clone, Copy, PartialEq, Eq, Debug)]
 pub enum InSection {
     Own {
         fault: SectionFault,
-        section: Section,
+        section: u8,
         at: Spot,
     },
     String(InString),
@@ -112,7 +110,7 @@ pub enum Fault {
 #[derive(Clone, Copy, PartialEq, Eq, Debug)]
 pub enum Layer {
     Message,
-    Section(Section),
+    Section(u8),
     String,
     Charts,
     Packer,

@@ -12,7 +12,7 @@ impl Display for Layer {
     fn fmt<W: fmt::Write>(&self, f: &mut fmt::Formatter<W>) -> fmt::Result {
         match *self {
             Layer::Message => write!(f, "message"),
-            Layer::Section(section) => write!(f, "section {}", u8::from(section)),
+            Layer::Section(number) => write!(f, "section {number}"),
             Layer::String => write!(f, "string"),
             Layer::Charts => write!(f, "charts"),
             Layer::Packer => write!(f, "packer"),

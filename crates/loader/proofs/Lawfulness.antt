@@ -14,7 +14,7 @@ use Rattle.loader.proofs.Coming.{FieldList}
 use Rattle.loader.proofs.Starting.{loads_as}
 
 -- the fields that octets load as are lawful
-octets_lawful : (s : List ℕ) → AllByRecursion LawfulField (fields_in (loaded_as s))
+pub octets_lawful : (s : List ℕ) → AllByRecursion LawfulField (fields_in (loaded_as s))
 octets_lawful s = go (loaded_as s) refl
   where
     go : (o : Option Message) → loaded_as s ≡ o → AllByRecursion LawfulField (fields_in o)

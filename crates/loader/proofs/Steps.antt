@@ -1,7 +1,7 @@
 -- The steps of a reader through the cells of a string.
-use Rattle.std.proofs.Common.{◌≡◌, ℕ, suc, ◌+◌, ◌-◌, ◌<◌, min, List, ◌++◌, length, get_or, drop, replicate, ap, ◌∙◌, subst, sym, arith, length-append, length-drop}
+use Rattle.std.proofs.Common.{◌≡◌, ℕ, suc, ◌+◌, ◌-◌, ◌<◌, min, List, ◌++◌, length, get_or, replicate, ap, ◌∙◌, subst, sym, arith, length-append}
 use lib.ListN.{length-replicate}
-use Rattle.std.proofs.lemmas.List.{drop_min, get_or_append_left, get_or-append_right, get_or-replicate}
+use Rattle.std.proofs.lemmas.List.{get_or_append_left, get_or-append_right, get_or-replicate}
 use Rattle.loader.specs.Reading.{Left, Rest, Hand}
 
 pub record Stands (cells ahead : List ℕ) (n first end level : ℕ) : Type 0 where
@@ -49,7 +49,3 @@ module _ {cells ahead : List ℕ} {n first end level : ℕ} (after : List ℕ) (
   -- the cells that are told are all of the run's, where there are fewer than the most that are told
   pub stands_more : (told : ℕ) → n < 4_294_967_296 → told ≡ min (suc more) 4_294_967_296 → Stands cells after n end (end + told) now
   stands_more told few capped = let whole : end + suc more ≡ end + told = omega (arith, k.left, sizes) in subst (λ e. Stands cells after n end e now) whole passed
-
--- what is left past some octets is the end of them, as long as it is
-pub is_end : (s r : List ℕ) (k : ℕ) → r ≡ drop k s → r ≡ drop (length s - length r) s
-is_end s r k e = e ∙ sym (drop_min k s) ∙ ap (λ n. drop n s) (omega (arith, length-drop k s, ap length e))

@@ -1,5 +1,11 @@
 -- Where the reader of a field's cells stands: the runs after the one that was answered last are ahead of it.
-use Rattle.std.specs.Prelude.{◌≡◌, ℕ, ◌+◌, ◌<◌, ◌≤◌, List, length, slice_index}
+use Rattle.std.specs.Prelude.{◌≡◌, ℕ, ◌+◌, ◌<◌, ◌≤◌, List, length, drop, slice_index}
+use Rattle.runs.specs.Runs.{loaded}
+use Rattle.runs.specs.declared.reading.RunString.{RunString}
+
+-- the cells that a string gives from a place on
+abbrev pub cells_from : RunString → ℕ → List ℕ
+cells_from s place = loaded s.v (drop place s.octets.now)
 
 -- of n cells those before `end` are read, and the others are ahead
 abbrev pub Left : List ℕ → ℕ → ℕ → Type 0

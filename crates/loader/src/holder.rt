@@ -107,6 +107,9 @@ impl<'a> Loader<'a> {
     pub fn field(&self, k: usize) -> Result<Field<&'a [u8]>, Fault>
         ensures { held_answer result ≡ asked itself (held_fields self.now) k }
     {
+        if k >= self.count() {
+            return Err(ChartFault::NoField.into());
+        }
         self.fields().nth(k).ok_or(ChartFault::NoField.into())
     }
 

@@ -1,5 +1,5 @@
 //! The lamps that the levels of a field light.
-ghost use Rattle.std.specs.Prelude.{◌≡◌, ◌≤◌, length, IfSome};
+ghost use Rattle.std.specs.Prelude.{◌≡◌, ◌^◌, ◌≤◌, length, IfSome};
 ghost use Rattle.sections.specs.Sections.{held_packing};
 ghost use Rattle.loader.specs.Lamps.{lamp, lamps_of, reaches};
 
@@ -9,12 +9,13 @@ use sections::packing::{Packing, Value};
 /// The values, in millimetres, from which the lamps after the first are lit.
 pub const LAMP_BOUNDS: [u32; 7] = [1, 5, 10, 20, 30, 50, 80];
 
-/// Whether a value is at least a bound.
-fn reaches(value: Value, bound: u32) -> bool
-    requires { value.scale ≤ 6 }
+/// Whether a value is at least a bound, which is worth `bound` times `unit` of its number.
+fn reaches(value: Value, unit: u64, bound: u32) -> bool
+    requires scaled { value.scale ≤ 6 }
+    requires unit { unit ≡ 10 ^ value.scale }
     ensures { result ≡ reaches value bound }
 {
-    let least = u64::from(bound) * 10_u64.pow(u32::from(value.scale));
+    let least = u64::from(bound) * unit;
     i64::from(value.number) >= least as i64
 }
 
@@ -27,7 +28,8 @@ fn lamp_of(bounds: &[u32], value: Option<Value>) -> u8
     let Some(value) = value else {
         return 0;
     };
-    let reached = bounds.iter().filter(|bound| reaches(value, **bound));
+    let unit = 10_u64.pow(u32::from(value.scale));
+    let reached = bounds.iter().filter(|bound| reaches(value, unit, **bound));
     reached.count() as u8 + 1
 }
 

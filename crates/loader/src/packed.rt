@@ -1,29 +1,30 @@
 //! A field of a loaded message as a chart.
-ghost use Rattle.std.specs.Prelude.{◌≡◌, ℕ, ◌+◌, ◌*◌, ◌<◌, ◌≤◌, length, slice_index};
-ghost use Rattle.runs.specs.Handed.{cells_in, cells_ahead, octets_ahead, IsEndOf};
-ghost use Rattle.loader.specs.Reading.{Left, Rest, Hand};
+ghost use Rattle.std.specs.Prelude.{◌≡◌, ℕ, ◌+◌, ◌*◌, ◌<◌, ◌≤◌, length, drop, slice_index, []};
+ghost use Rattle.runs.specs.Runs.{leading_digits};
+ghost use Rattle.runs.specs.Handed.{cells_in};
+ghost use Rattle.loader.specs.Reading.{cells_from, Left, Rest, Hand};
 
 use crate::holder::Loader;
 use charts::chart::{Chart, Run};
 use charts::size::Size;
 use format::fault::Fault;
-use runs::reading::{RunString, Runs};
+use runs::reading::{RunString, read_run};
 
-/// The string of a field, the runs after the one that was answered last, and of that one its level, its first cell and
-/// the cell after its last; before the first answer these are 0.
+/// The string of a field, and the run that was answered last: the place after its last digit, its first cell, the cell
+/// after its last, and its level; before the first answer the last three are 0.
 #[derive(Clone, Copy)]
 pub struct Packed<'a> {
     pub(crate) string: RunString<'a>,
     pub(crate) size: Size,
-    pub(crate) runs: Runs<'a>,
+    pub(crate) place: usize,
     pub(crate) first: usize,
     pub(crate) end: usize,
     pub(crate) level: u8,
     ghost full: { length (cells_in string) ≡ size.width * size.height },
     ghost octets: { (k : ℕ) → slice_index (cells_in string) k ≤ 255 },
-    ghost ends: { IsEndOf string runs },
-    ghost left: { Left (cells_ahead runs) (size.width * size.height) end },
-    ghost rest: { Rest (cells_in string) (cells_ahead runs) end },
+    ghost led: { leading_digits string.v (drop place string.octets.now) ≡ [] },
+    ghost left: { Left (cells_from string place) (size.width * size.height) end },
+    ghost rest: { Rest (cells_in string) (cells_from string place) end },
     ghost hand: { Hand (cells_in string) first end level },
 }
 
@@ -41,7 +42,7 @@ impl<'a> Packed<'a> {
         Packed {
             string,
             size,
-            runs: string.runs(),
+            place: read_run(string.octets, 0, string.v).next,
             first: 0,
             end: 0,
             level: 0,
@@ -76,13 +77,13 @@ impl<'a> Packed<'a> {
         ensures same { packed_picture self.new ≡ packed_picture self.old }
         ensures first { self.new.first ≡ self.old.end }
         ensures some { self.old.end < self.new.end }
-        ensures onward { octets_ahead self.new.runs < octets_ahead self.old.runs }
+        ensures onward { self.old.place < self.new.place }
     {
-        if let Some(run) = self.runs.next() {
-            self.level = run.level;
-            self.first = self.end;
-            self.end += run.cells;
-        }
+        let run = read_run(self.string.octets, self.place + 1, self.string.v);
+        self.level = self.string.octets[self.place];
+        self.first = self.end;
+        self.end += run.cells;
+        self.place = run.next;
     }
 
     /// Goes to the run that holds the cell: on from the run that was answered last, or from the string's start where
@@ -91,7 +92,7 @@ impl<'a> Packed<'a> {
         requires { cell < self.old.size.width * self.old.size.height }
         ensures same { packed_picture self.new ≡ packed_picture self.old }
         ensures holds { (self.new.first ≤ cell) × (cell < self.new.end) }
-        ensures onward { self.old.first ≤ cell → octets_ahead self.new.runs ≤ octets_ahead self.old.runs }
+        ensures onward { self.old.first ≤ cell → self.old.place ≤ self.new.place }
     {
         if cell < self.first {
             *self = Packed::at_start(self.string, self.size);
@@ -119,7 +120,7 @@ impl<'a> Chart for Packed<'a> {
         ensures answer { RunAt (packed_picture self.old) cell result.level result.length }
         ensures same { packed_picture self.new ≡ packed_picture self.old }
         ensures rest { cell < self.old.size.width * self.old.size.height → cell + result.length ≡ self.new.end }
-        ensures onward { self.old.first ≤ cell → octets_ahead self.new.runs ≤ octets_ahead self.old.runs }
+        ensures onward { self.old.first ≤ cell → self.old.place ≤ self.new.place }
     {
         if cell >= self.size.cells() {
             return Run::default();

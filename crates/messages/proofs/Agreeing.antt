@@ -3,6 +3,7 @@ use Rattle.std.proofs.Common.{◌≡◌, ℕ, zero, suc, ◌+◌, ◌-◌, ◌<�
 use Rattle.std.specs.Cmp.Lexicographic.{bytes_decides}
 use Rattle.std.proofs.lemmas.Bool.{lt-ltb, le-ltb, cond-true, cond-false, eq-eqb, ne_eqb, eqb-true, eqb-false, leb-true, false_from_ne_true}
 use Rattle.std.proofs.lemmas.Bool.Decides.{not_from_Decides}
+use Rattle.format.specs.Sections.{number_of}
 use Rattle.format.specs.declared.fault.Layer.TheVariants as layer
 use Rattle.format.specs.declared.fault.Refusal.{Refusal}
 use Rattle.runs.specs.StringFaults as string
@@ -70,10 +71,10 @@ module _ (l : Last (List ℕ)) (p : ℕ) (fs : List (Field (List ℕ))) (r : Lis
   -- the step at a section, by the verdicts on its rules and on its string
   judging : (d : Due (List ℕ)) (v : Option Flaw) (w : Option string.Flaw) → 5 ≤ length r → follows l (get_or r 4 0) ≡ Some d → stated r ≤ length r
       → judge (checks_for (rules_of d)) (take (stated r) r) ≡ v → string_fault d (take (stated r) r) ≡ w
-      → advance l p (length fs) r ≡ result_and (result_and {T = Unit {0}} (judged (layer.Section (section_of d)) p (length fs) v tt) (string.judged (p + 5) (length fs) w)) (Ok (record { last = leaves d (take (stated r) r); made = finishes d (take (stated r) r); rest = drop (stated r) r }))
+      → advance l p (length fs) r ≡ result_and (result_and {T = Unit {0}} (judged (layer.Section (number_of (section_of d))) p (length fs) v tt) (string.judged (p + 5) (length fs) w)) (Ok (record { last = leaves d (take (stated r) r); made = finishes d (take (stated r) r); rest = drop (stated r) r }))
   judging d v w long next fits rules text =
       sym (step_is l p (length fs) r d long (sym next) fits)
-      ∙ (λ i. result_and (result_and {T = Unit {0}} (judged (layer.Section (section_of d)) p (length fs) (rules i) tt) (string.judged (p + 5) (length fs) (text i))) (Ok (record { last = leaves d (take (stated r) r); made = finishes d (take (stated r) r); rest = drop (stated r) r })))
+      ∙ (λ i. result_and (result_and {T = Unit {0}} (judged (layer.Section (number_of (section_of d))) p (length fs) (rules i) tt) (string.judged (p + 5) (length fs) (text i))) (Ok (record { last = leaves d (take (stated r) r); made = finishes d (take (stated r) r); rest = drop (stated r) r })))
 
 pub agree : (k : ℕ) {l : Last (List ℕ)} {p : ℕ} {fs : List (Field (List ℕ))} {r : List ℕ} {o : Fields} → Reads l p fs r o → length r < k → read_by k l p fs r ≡ o
 agree zero {l} {p} {fs} {r} h lt = absurd (omega arith)

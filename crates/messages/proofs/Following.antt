@@ -2,6 +2,7 @@
 use Rattle.std.proofs.Common.{◌≡◌, ℕ, ◌+◌, ◌-◌, ◌<◌, ◌≤◌, Bool, true, false, cond, ltb, List, [], ◌++◌, length, get_or, take, drop, Some, None, Ok, Err, Option, Result, sym, refl, ap, ◌∙◌, subst, arith, length-append, length-drop, length-take}
 use mathlib.Core.Path.{subst₃}
 use Rattle.std.proofs.lemmas.Bool.{ltb-true, ltb-false, leb-true}
+use Rattle.format.specs.Sections.{number_of}
 use Rattle.format.specs.declared.fault.Layer.TheVariants as layer
 use Rattle.format.specs.declared.fault.Refusal.{Refusal}
 use Rattle.runs.specs.StringFaults as string
@@ -40,7 +41,7 @@ module _ (l : Last (List ℕ)) (p : ℕ) (fs : List (Field (List ℕ))) (r : Lis
       at_string d long next fits ok (Some f) e = faulty live long next fits ok e
 
       at_flaw : (d : Due (List ℕ)) → 5 ≤ length r → follows l (get_or r 4 0) ≡ Some d → stated r ≤ length r → (v : Option Flaw) → judge (checks_for (rules_of d)) (take (stated r) r) ≡ v
-          → Says (result_and (result_and {T = Unit {0}} (judged (layer.Section (section_of d)) p (length fs) v tt) (string.judged (p + 5) (length fs) (string_fault d (take (stated r) r)))) (Ok (record { last = leaves d (take (stated r) r); made = finishes d (take (stated r) r); rest = drop (stated r) r })))
+          → Says (result_and (result_and {T = Unit {0}} (judged (layer.Section (number_of (section_of d))) p (length fs) v tt) (string.judged (p + 5) (length fs) (string_fault d (take (stated r) r)))) (Ok (record { last = leaves d (take (stated r) r); made = finishes d (take (stated r) r); rest = drop (stated r) r })))
       at_flaw d long next fits None e = at_string d long next fits e (string_fault d (take (stated r) r)) refl
       at_flaw d long next fits (Some f) e = flawed live long next fits e
 

@@ -2,6 +2,7 @@
 use Rattle.std.specs.Prelude.{ℕ, zero, suc, ◌+◌, ◌-◌, Bool, false, if◌then◌else◌, List, [], ◌++◌, length, take, drop, Some, None, Ok, Err, Option, Result, ◌==◌, nat_lt, slice_index}
 use Rattle.std.specs.Result.{result_and}
 use Rattle.std.specs.Str.{bytes_eq}
+use Rattle.format.specs.Sections.{number_of}
 use Rattle.format.specs.declared.fault.Layer.TheVariants as layer
 use Rattle.format.specs.declared.fault.Refusal.{Refusal}
 use Rattle.runs.specs.StringFaults as string
@@ -21,7 +22,7 @@ pub record Next : Type 0 where
 
 -- the verdict on a section's rules, and then on its string
 abbrev pub verdict : Due (List ℕ) → ℕ → ℕ → List ℕ → Result (Unit {0}) Refusal
-verdict d p n s = result_and {T = Unit {0}} (judged (layer.Section (section_of d)) p n (judge (checks_for (rules_of d)) s) tt) (string.judged (p + 5) n (string_fault d s))
+verdict d p n s = result_and {T = Unit {0}} (judged (layer.Section (number_of (section_of d))) p n (judge (checks_for (rules_of d)) s) tt) (string.judged (p + 5) n (string_fault d s))
 
 -- what a section leaves that keeps its rules
 abbrev pub next_of : Due (List ℕ) → List ℕ → List ℕ → Next

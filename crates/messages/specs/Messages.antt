@@ -4,6 +4,7 @@ use Rattle.format.specs.Numbers.{number, field}
 use Rattle.format.specs.Refusals.{told}
 use Rattle.format.specs.declared.section.Section.{Section}
 use Rattle.format.specs.declared.section.Section.TheVariants as section
+use Rattle.format.specs.Sections.{number_of}
 use Rattle.format.specs.declared.fault.Layer.TheVariants as layer
 use Rattle.format.specs.declared.fault.Refusal.{Refusal}
 use Rattle.runs.specs.StringFaults as string
@@ -119,8 +120,8 @@ Fields = Result (List (Field (List ℕ))) Refusal
 abbrev pub of_message : ℕ → ℕ → ℕ → Refusal
 of_message n place fields = told n layer.Message place fields 0
 
-abbrev pub of_section : Section → Flaw → ℕ → ℕ → Refusal
-of_section s f place fields = told f.number (layer.Section s) (place + (f.octet - 1)) fields 0
+abbrev pub of_section : ℕ → Flaw → ℕ → ℕ → Refusal
+of_section section f place fields = told f.number (layer.Section section) (place + (f.octet - 1)) fields 0
 
 abbrev pub of_string : string.Flaw → ℕ → ℕ → Refusal
 of_string f place fields = told f.number layer.String (place + f.place) fields f.cells
@@ -141,7 +142,7 @@ pub data Reads : Last (List ℕ) → ℕ → List (Field (List ℕ)) → List �
       → (Ended l r → ⊥) → 5 ≤ length r → follows l (slice_index r 4) ≡ Some d → length r < stated r → Reads l p fs r (Err (of_message 1 p (length fs)))
   flawed : {l : Last (List ℕ)} {p : ℕ} {fs : List (Field (List ℕ))} {r : List ℕ} {d : Due (List ℕ)} {f : Flaw}
       → (Ended l r → ⊥) → 5 ≤ length r → follows l (slice_index r 4) ≡ Some d → stated r ≤ length r
-      → judge (checks_for (rules_of d)) (take (stated r) r) ≡ Some f → Reads l p fs r (Err (of_section (section_of d) f p (length fs)))
+      → judge (checks_for (rules_of d)) (take (stated r) r) ≡ Some f → Reads l p fs r (Err (of_section (number_of (section_of d)) f p (length fs)))
   faulty : {l : Last (List ℕ)} {p : ℕ} {fs : List (Field (List ℕ))} {r : List ℕ} {d : Due (List ℕ)} {f : string.Flaw}
       → (Ended l r → ⊥) → 5 ≤ length r → follows l (slice_index r 4) ≡ Some d → stated r ≤ length r
       → judge (checks_for (rules_of d)) (take (stated r) r) ≡ None → string_fault d (take (stated r) r) ≡ Some f

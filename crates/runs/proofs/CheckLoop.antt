@@ -5,19 +5,19 @@ use Rattle.runs.specs.Runs.{base, leading_digits, runs, digits_value}
 use Rattle.runs.specs.StringFaults.{flaw, digit_first, fault_from, fault}
 use Rattle.runs.specs.declared.reading.Run.{Run}
 use Rattle.runs.specs.declared.reading.Runs.{Runs}
-use Rattle.runs.specs.Handed.{ahead, HandsOut, IsOver}
+use Rattle.runs.specs.Handed.{rest_of, ahead, HandsOut, IsOver}
 use Rattle.runs.proofs.DigitLoop.{runs_skip}
 use Rattle.runs.proofs.Handing.{turn, over}
 use Rattle.runs.proofs.Faultless.{fault_early, fault_none, fault_past, fault_on}
 
 pub record Checked (V n : ℕ) (s : List ℕ) (w : Runs) (place done : ℕ) : Type 0 where
   pub v : w.v ≡ V
-  pub within : place + length w.rest.now ≤ length s
+  pub within : place + length (rest_of w) ≤ length s
   pub low : done ≤ n
   pub still : fault_from (base V) n place done (ahead w) ≡ fault V n s
 
 -- before the first run of a string that does not begin with a digit
-pub checked_none : (V n : ℕ) (s : List ℕ) (w : Runs) → digit_first V s ≡ false → w.v ≡ V → w.rest.now ≡ drop (length (leading_digits V s)) s → Checked V n s w 0 0
+pub checked_none : (V n : ℕ) (s : List ℕ) (w : Runs) → digit_first V s ≡ false → w.v ≡ V → rest_of w ≡ drop (length (leading_digits V s)) s → Checked V n s w 0 0
 checked_none V n s w begins v rest = record {
   v = v;
   within = omega (arith, ap length rest, length-drop (length (leading_digits V s)) s);
@@ -48,7 +48,7 @@ module _ {V n : ℕ} {s : List ℕ} {w : Runs} {place done : ℕ} (k : Checked V
         let all : run.cells ≡ suc (digits_value (base V) t.0.1) = omega arith in
         record {
           v = h.v ∙ k.v;
-          within = omega (arith, k.within, h.within, ap length h.rest, length-drop run.octets w.rest.now);
+          within = omega (arith, k.within, h.within, ap length h.rest, length-drop run.octets (rest_of w));
           low = omega arith;
           still =
               (λ i. fault_from (base V) n (place + octets i) (done + all i) (ahead u))

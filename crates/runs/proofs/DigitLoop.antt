@@ -1,9 +1,9 @@
--- The digits that octets begin with, and what the loop over them keeps.
-use Rattle.std.proofs.Common.{◌≡◌, ℕ, zero, suc, ◌+◌, ◌-◌, ◌*◌, ◌<◌, ◌≤◌, min, List, [], ◌∷◌, length, get_or, take, drop, refl, ap, ◌∙◌, mul_assoc, mul_comm, mul-zero, mul-add, arith}
-use Rattle.std.proofs.lemmas.List.{at_drop_all, at_drop_more, take_rest}
+-- The digits at a place of octets, and what the loop over them keeps.
+use Rattle.std.proofs.Common.{◌≡◌, ℕ, zero, suc, ◌+◌, ◌-◌, ◌*◌, ◌<◌, ◌≤◌, min, List, [], ◌∷◌, ◌++◌, map, length, get_or, drop, replicate, sym, refl, ap, ◌∙◌, mul_assoc, mul_comm, mul-zero, mul-add, arith, drop-drop}
+use Rattle.std.proofs.lemmas.List.{at_drop_all, at_drop_more, drop_all}
 use Rattle.std.proofs.lemmas.Bool.{cases_lt}
-use Rattle.runs.specs.Runs.{base, leading_digits, runs, digits_value}
-use Rattle.runs.proofs.Strings.{leading_level, leading_digit, runs_digit}
+use Rattle.runs.specs.Runs.{base, leading_digits, runs, digits_value, measured, cells_of, loaded}
+use Rattle.runs.proofs.Strings.{leading_level, leading_digit, runs_level, runs_digit}
 
 module _ (V : ℕ) (s : List ℕ) (p : ℕ) where
   pub leading_stops : p < length s → get_or s p 0 ≤ V → leading_digits V (drop p s) ≡ []
@@ -21,20 +21,20 @@ capped : (cap x w N : ℕ) → min (min x cap + min w cap * N) cap ≡ min (x + 
 capped cap x w zero = grind arith
 capped cap x w (suc n) = grind arith
 
-pub record Reading (cap V : ℕ) (s : List ℕ) (cells weight place : ℕ) : Type 0 where
+pub record Reading (cap V : ℕ) (s : List ℕ) (at cells weight place : ℕ) : Type 0 where
   pub small : cells ≤ cap
   pub light : weight ≤ cap
-  pub rest : min (cells + weight * digits_value (base V) (leading_digits V (drop place s))) cap ≡ min (suc (digits_value (base V) (leading_digits V s))) cap
-  pub passed : place + length (leading_digits V (drop place s)) ≡ length (leading_digits V s)
+  pub rest : min (cells + weight * digits_value (base V) (leading_digits V (drop place s))) cap ≡ min (suc (digits_value (base V) (leading_digits V (drop at s)))) cap
+  pub passed : place + length (leading_digits V (drop place s)) ≡ at + length (leading_digits V (drop at s))
 
-module _ {cap V : ℕ} {s : List ℕ} {cells weight place : ℕ} (k : Reading cap V s cells weight place) where
-  pub done : leading_digits V (drop place s) ≡ [] → (cells ≡ min (suc (digits_value (base V) (leading_digits V s))) cap) × (place ≡ length (leading_digits V s))
+module _ {cap V : ℕ} {s : List ℕ} {at cells weight place : ℕ} (k : Reading cap V s at cells weight place) where
+  pub done : leading_digits V (drop place s) ≡ [] → (cells ≡ min (suc (digits_value (base V) (leading_digits V (drop at s)))) cap) × (place ≡ at + length (leading_digits V (drop at s)))
   done e =
       let r = rw e at k.rest in
       let q = rw e at k.passed in
       (omega (arith, k.small, mul-zero weight, r), omega (arith, q))
 
-  pub one_more : place < length s → V < get_or s place 0 → Reading cap V s (min (cells + (get_or s place 0 - suc V) * weight) cap) (min (weight * base V) cap) (place + 1)
+  pub one_more : place < length s → V < get_or s place 0 → Reading cap V s at (min (cells + (get_or s place 0 - suc V) * weight) cap) (min (weight * base V) cap) (place + 1)
   one_more h high =
       let d : ℕ = get_or s place 0 - suc V in
       let e = leading_goes V s place h high in
@@ -61,9 +61,9 @@ leading_skip V [] = refl
 leading_skip V (o ∷ s) =
     grind (arith, leading_level V o s, leading_digit V o s, cases_lt V o, leading_skip V s)
 
--- the part past its digits
-pub past_digits : (V : ℕ) (s : List ℕ) (p : ℕ) → p ≡ length (leading_digits V s) → take (length s - p) (drop p s) ≡ drop (length (leading_digits V s)) s
-past_digits V s p e = take_rest s p ∙ ap (λ k. drop k s) e
+-- the same of the digits at a place
+pub leading_next : (V : ℕ) (s : List ℕ) (p : ℕ) → leading_digits V (drop (p + length (leading_digits V (drop p s))) s) ≡ []
+leading_next V s p = ap (leading_digits V) (sym (drop-drop (length (leading_digits V (drop p s))) p s)) ∙ leading_skip V (drop p s)
 
 pub leading_few : (V : ℕ) (s : List ℕ) → length (leading_digits V s) ≤ length s
 unfolding leading_digits
@@ -75,3 +75,22 @@ leading_few V (o ∷ s) =
 pub first_level : (V o : ℕ) (s : List ℕ) → leading_digits V (o ∷ s) ≡ [] → o ≤ V
 first_level V o s e =
     grind (arith, leading_digit V o s, cases_lt V o, ap length e)
+
+pub level_next : (V : ℕ) (s : List ℕ) (p : ℕ) → p < length s → leading_digits V (drop p s) ≡ [] → get_or s p 0 ≤ V
+level_next V s p h e = first_level V (get_or s p 0) (drop (p + 1) s) (sym (at_drop_more (leading_digits V) s p 0 h) ∙ e)
+
+-- the runs from a level octet on: its run, and the runs from the place after its last digit on
+pub runs_from : (V : ℕ) (s : List ℕ) (p : ℕ) → p < length s → get_or s p 0 ≤ V → runs V (drop p s) ≡ (get_or s p 0, leading_digits V (drop (p + 1) s)) ∷ runs V (drop (p + 1 + length (leading_digits V (drop (p + 1) s))) s)
+runs_from V s p h low =
+    at_drop_more (runs V) s p 0 h
+    ∙ runs_level V (get_or s p 0) (drop (p + 1) s) low
+    ∙ ap (λ rs. (get_or s p 0, leading_digits V (drop (p + 1) s)) ∷ rs)
+    (sym (runs_skip V (drop (p + 1) s)) ∙ ap (runs V) (drop-drop (length (leading_digits V (drop (p + 1) s))) (p + 1) s))
+
+pub loaded_over : (V : ℕ) (s : List ℕ) (p : ℕ) → length s ≤ p → loaded V (drop p s) ≡ []
+unfolding runs
+loaded_over V s p h = ap (loaded V) (drop_all p s h)
+
+-- the cells from a run on: its own, then those from the place after its last digit on
+pub loaded_from : (V : ℕ) (s : List ℕ) (p : ℕ) → p < length s → leading_digits V (drop p s) ≡ [] → loaded V (drop p s) ≡ replicate (suc (digits_value (base V) (leading_digits V (drop (p + 1) s)))) (get_or s p 0) ++ loaded V (drop (p + 1 + length (leading_digits V (drop (p + 1) s))) s)
+loaded_from V s p h led = ap (λ rs. cells_of (map (measured V) rs)) (runs_from V s p h (level_next V s p h led))

@@ -70,7 +70,7 @@ faultless_length V n (o ∷ s) e =
     omega (arith, fills V n 0 0 (runs V (o ∷ s)) (omega arith) (sym (fault_begun V n (o ∷ s) (first_low V n o s e)) ∙ e))
 
 -- a string of some cells with no fault begins with a level
-faultless_begins : (V n : ℕ) (s : List ℕ) → 0 < n → fault V n s ≡ None → Begins V s
+pub faultless_begins : (V n : ℕ) (s : List ℕ) → 0 < n → fault V n s ≡ None → Begins V s
 unfolding runs
 faultless_begins V n [] some e = absurd (omega (arith, faultless_length V n [] e))
 faultless_begins V n (o ∷ s) some e = first_low V n o s e

@@ -3,23 +3,23 @@ use Rattle.std.proofs.Common.{◌≡◌, ℕ, suc, ◌≤◌, List, [], ◌∷�
 use Rattle.runs.specs.Runs.{base, leading_digits, runs, digits_value, measured, cells_of}
 use Rattle.runs.specs.declared.reading.Run.{Run}
 use Rattle.runs.specs.declared.reading.Runs.{Runs}
-use Rattle.runs.specs.Handed.{handed, ahead, coming, HandsOut, IsOver}
+use Rattle.runs.specs.Handed.{handed, rest_of, ahead, coming, HandsOut, IsOver}
 use Rattle.runs.proofs.Strings.{runs_level}
 use Rattle.runs.proofs.DigitLoop.{runs_skip, leading_few, first_level}
 
 -- the string is over
-pub is_over : (w : Runs) → w.rest.now ≡ [] → IsOver w w
+pub is_over : (w : Runs) → rest_of w ≡ [] → IsOver w w
 unfolding runs
 is_over w e =
     let none : ahead w ≡ [] = ap (runs w.v) e in
     record { stays = refl; rest = e; none = ap (map (handed w.v)) none; cells = ap (λ rs. cells_of (map (measured w.v) rs)) none }
 
 -- the string begins with a level and the digits of its run
-module _ (w : Runs) {o : ℕ} {s : List ℕ} (e : w.rest.now ≡ o ∷ s) where
+module _ (w : Runs) {o : ℕ} {s : List ℕ} (e : rest_of w ≡ o ∷ s) where
   low : o ≤ w.v
   low = first_level w.v o s (sym (ap (leading_digits w.v) e) ∙ w.begins)
 
-  module _ (u : Runs) (v : u.v ≡ w.v) (rest : u.rest.now ≡ drop (length (leading_digits w.v s)) s) where
+  module _ (u : Runs) (v : u.v ≡ w.v) (rest : rest_of u ≡ drop (length (leading_digits w.v s)) s) where
     runs_here : ahead w ≡ (o, leading_digits w.v s) ∷ ahead u
     runs_here =
         ap (runs w.v) e
@@ -43,7 +43,7 @@ module _ (w : Runs) {o : ℕ} {s : List ℕ} (e : w.rest.now ≡ o ∷ s) where
           );
         }
 
-turn_at : (w u : Runs) (run : Run) (s : List ℕ) → w.rest.now ≡ s → HandsOut w run u → (r : ℕ × List ℕ) × (ahead w ≡ r ∷ ahead u) × (run ≡ handed w.v r)
+turn_at : (w u : Runs) (run : Run) (s : List ℕ) → rest_of w ≡ s → HandsOut w run u → (r : ℕ × List ℕ) × (ahead w ≡ r ∷ ahead u) × (run ≡ handed w.v r)
 unfolding runs
 turn_at w u run [] e h = let clash : ◌≡◌ {A = List Run} [] (run ∷ coming u) = sym (ap (λ s. map (handed w.v) (runs w.v s)) e) ∙ h.first in cc
 turn_at w u run (o ∷ s) e h =
@@ -56,7 +56,7 @@ turn_at w u run (o ∷ s) e h =
 
 -- a run was handed out: which one it is
 pub turn : {w u : Runs} {run : Run} → HandsOut w run u → (r : ℕ × List ℕ) × (ahead w ≡ r ∷ ahead u) × (run ≡ handed w.v r)
-turn {w} {u} {run} h = turn_at w u run w.rest.now refl h
+turn {w} {u} {run} h = turn_at w u run (rest_of w) refl h
 
 -- none was: there is none
 pub over : {w u : Runs} → IsOver w u → ahead w ≡ []

@@ -16,10 +16,10 @@ impl RunString<'_> {
     pub fn highest_level(&self) -> u8
         ensures { result ≡ highest (cells_in self.now) }
     {
+        // a digit counts as 0, and is not left out: so the walk has no branch
         self.octets
             .iter()
-            .copied()
-            .filter(|octet| *octet <= self.v)
+            .map(|octet| if *octet <= self.v { *octet } else { 0 })
             .max()
             .unwrap_or(0)
     }
@@ -44,7 +44,9 @@ impl RunString<'_> {
                 return None;
             }
             done += run.cells;
-            if run.level != level {
+            // a name for the test, so that no proof goes by its text
+            let apart = run.level != level;
+            if apart {
                 octets += run_octets(highest, alike);
                 level = run.level;
                 alike = 0;

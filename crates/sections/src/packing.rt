@@ -4,7 +4,7 @@ ghost use Rattle.sections.specs.Sections.{packing_of, held_packing};
 ghost use Rattle.sections.specs.Values.{values, value_of};
 
 use crate::parts::{from_place, signed_field};
-use format::numbers::field;
+use format::numbers::{TOP_OF_TWO, field};
 
 /// What section 5 says; `P` holds a part of the octets.
 #[derive(Clone, Copy)]
@@ -54,7 +54,7 @@ impl Packing<&[u8]> {
             return None;
         }
         Some(Value {
-            number: signed_field::<2>(self.table, last - 1),
+            number: signed_field::<2>(self.table, last - 1, TOP_OF_TWO),
             scale: self.scale,
         })
     }

@@ -1,5 +1,5 @@
 //! Parts of octets.
-ghost use Rattle.std.specs.Prelude.{◌≡◌, ◌^◌, ◌/◌, ◌≤◌, drop};
+ghost use Rattle.std.specs.Prelude.{◌≡◌, ◌^◌, ◌*◌, ◌≤◌, drop};
 ghost use Rattle.format.specs.Numbers.{field, signed};
 ghost use Rattle.sections.specs.Sections.{content};
 
@@ -20,11 +20,13 @@ pub fn content(section: &[u8]) -> &[u8]
     from_place(section, 5)
 }
 
-/// The signed number in so many octets, at most four, from `octet` on, which is counted from 1.
-pub(crate) fn signed_field<const WIDTH: usize>(octets: &[u8], octet: usize) -> i32
-    requires { (1 ≤ WIDTH) × (WIDTH ≤ 4) }
-    ensures { result ≡ signed (256 ^ WIDTH / 2) (field octets.now octet WIDTH) }
+/// The signed number in so many octets, at most four, from `octet` on, which is counted from 1; `top` is what the top
+/// bit of so many octets is worth alone, or more.
+pub(crate) fn signed_field<const WIDTH: usize>(octets: &[u8], octet: usize, top: u32) -> i32
+    requires width { WIDTH ≤ 4 }
+    requires most { top ≤ 2147483648 }
+    requires least { 256 ^ WIDTH ≤ 2 * top }
+    ensures { result ≡ signed top (field octets.now octet WIDTH) }
 {
-    let top = 256_u64.pow(WIDTH as u32) / 2;
-    signed(field(octets, octet, WIDTH) as u32, top as u32) as i32
+    signed(field(octets, octet, WIDTH) as u32, top) as i32
 }

@@ -10,8 +10,7 @@ ghost use Rattle.sections.specs.Rules.{judge, judged, check_of, checks_for, prod
 
 use crate::parts::signed_field;
 use format::fault::{InSection, SectionFault, Spot, Start};
-use format::numbers::field;
-use format::section::Section;
+use format::numbers::{TOP_OF_FOUR, field};
 
 /// A field of one value: its first octet counted from 1, its width in octets, and the value.
 #[derive(Clone, Copy, PartialEq, Eq, Debug)]
@@ -88,7 +87,7 @@ pub enum Rule {
 pub(crate) fn latitude(section: &[u8], octet: u16) -> i32
     ensures { result ≡ signed 2147483648 (field section.now octet 4) }
 {
-    signed_field::<4>(section, octet as usize)
+    signed_field::<4>(section, octet as usize, TOP_OF_FOUR)
 }
 
 /// The days of a month from 1 to 12 in the Gregorian calendar.
@@ -226,14 +225,9 @@ fn lie_in_order(count: u64, low: i64, high: i64) -> bool
 }
 
 // octets and start, as in `check_section` and a string's check: a type of both would ask of callers that no place in it wraps
-/// The first of the rules that the octets of a section break.
-pub fn check_rules(
-    section: Section,
-    octets: &[u8],
-    start: Start,
-    rules: &[Rule],
-) -> Result<(), InSection>
-    ensures first { refused_in_section result ≡ judged (layer.Section section) start.place start.fields (judge (checks_for rules.now) octets.now) tt }
+/// The first of the rules that the octets of section `number` break.
+pub fn check_rules(octets: &[u8], number: u8, start: Start, rules: &[Rule]) -> Result<(), InSection>
+    ensures first { refused_in_section result ≡ judged (layer.Section number) start.place start.fields (judge (checks_for rules.now) octets.now) tt }
     ensures law { FirstDecides }
 {
     for rule in rules {
@@ -241,7 +235,7 @@ pub fn check_rules(
             let place = start.place as usize + (rule.octet() as usize).saturating_sub(1);
             return Err(InSection::Own {
                 fault: rule.fault(),
-                section,
+                section: number,
                 at: Spot {
                     place,
                     fields: start.fields,

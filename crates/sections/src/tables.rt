@@ -1,6 +1,7 @@
 //! What each section is checked for, as a list of rules in octet order.
 ghost use Rattle.std.specs.Prelude.{◌≡◌};
 ghost use Rattle.format.specs.Refusals.{refused_in_section};
+ghost use Rattle.format.specs.Sections.{number_of};
 ghost use Rattle.format.specs.declared.fault.Layer.TheVariants as layer;
 ghost use Rattle.sections.specs.Rules.{judge, judged, checks_for};
 ghost use Rattle.sections.specs.Sections.{packing_rules};
@@ -133,9 +134,9 @@ pub fn check_section(
     points: u32,
     start: Start,
 ) -> Result<(), InSection>
-    ensures { refused_in_section result ≡ judged (layer.Section section) start.place start.fields (judge (checks_for (rules_of section points)) octets.now) tt }
+    ensures { refused_in_section result ≡ judged (layer.Section (number_of section)) start.place start.fields (judge (checks_for (rules_of section points)) octets.now) tt }
 {
-    let check = |rules: &[Rule]| check_rules(section, octets, start, rules);
+    let check = |rules: &[Rule]| check_rules(octets, section.into(), start, rules);
     // a match: each section has its table, and that of section 5 is made of the points
     match section {
         Section::Identification => check(&IDENTIFICATION_RULES),

@@ -15,8 +15,7 @@ least bound unit scale low is narrow =
 pub returns : goal.returns
 returns c =
     let value = c.args.value in
-    let unit = c.pow.ensures ∙ ap (λ n. 10 ^ n) c.from-2.ensures in
-    let fits : SFits w64 c.from-3.result = search rules in
+    let fits : SFits w64 c.from-2.result = search rules in
     let narrow : SFits w32 value.number = search rules in
-    ap₂ le_z (ap (λ n. to_z w64 (n * c.pow.result)) c.from.ensures ∙ least c.args.bound c.pow.result value.scale c.requires unit c.ranges.bound.fits)
-    (to_z-of_z w64 c.from-3.result fits ∙ c.from-3.ensures ∙ to_z-of_z w32 value.number narrow)
+    ap₂ le_z (ap (λ n. to_z w64 (n * c.args.unit)) c.from.ensures ∙ least c.args.bound c.args.unit value.scale c.requires.scaled c.requires.unit c.ranges.bound.fits)
+    (to_z-of_z w64 c.from-2.result fits ∙ c.from-2.ensures ∙ to_z-of_z w32 value.number narrow)

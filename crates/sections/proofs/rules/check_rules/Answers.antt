@@ -17,7 +17,7 @@ returns-then-not-keeps c =
     let here = at_drop_more (λ rs. judge (checks_for rs) c.args.octets.now) c.args.rules.now c.loop-rule.rule-index none c.loop-rule-test.true in
     let fails = c.loop-rule.invariant ∙ here ∙ cond-false _ _ _ (sym c.keeps.ensures ∙ c.if-not-keeps.true) in
     let octet = c.saturating_sub.ensures ∙ ap (λ n. n - 1) c.octet.ensures in
-    let layer = layer.Section c.args.section in
+    let layer = layer.Section c.args.number in
     record {
       first = (λ i. Err (told (c.fault.ensures i) layer (c.args.start.place + octet i) c.args.start.fields 0)) ∙ sym (ap (λ v. judged layer c.args.start.place c.args.start.fields v tt) fails);
       law = first_decides;
@@ -25,6 +25,6 @@ returns-then-not-keeps c =
 
 pub returns : goal.returns
 returns c = record {
-  first = sym (ap (λ v. judged (layer.Section c.args.section) c.args.start.place c.args.start.fields v tt) (c.loop-rule.invariant ∙ at_drop_all (λ r. judge (checks_for r) c.args.octets.now) _ _ c.loop-rule-test.false));
+  first = sym (ap (λ v. judged (layer.Section c.args.number) c.args.start.place c.args.start.fields v tt) (c.loop-rule.invariant ∙ at_drop_all (λ r. judge (checks_for r) c.args.octets.now) _ _ c.loop-rule-test.false));
   law = first_decides;
 }

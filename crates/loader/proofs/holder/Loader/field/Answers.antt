@@ -9,4 +9,4 @@ use Rattle.loader.proofs.holder.Loader.field.Goals as goal
 pub returns : goal.returns
 returns c =
     let nth = nth_from_yields_List c.nth.result c.nth.new.self c.args.k c.nth.ensures.ran (YieldsList-from_first held_field ahead (held_fields c.args.self.now) c.fields.ensures) in
-    ap held_answer (c.ok_or.ensures.value ∙ ap (ok_or c.nth.result) c.into.ensures) ∙ answered _ ∙ ap (found itself) nth
+    ap held_answer (c.ok_or.ensures.value ∙ ap (ok_or c.nth.result) c.into-2.ensures) ∙ answered _ ∙ ap (found itself) nth

@@ -6,7 +6,7 @@ use Rattle.runs.proofs.Theorems.{string_of}
 use Rattle.runs.proofs.Faultless.{canonical_laws}
 use Rattle.runs.proofs.LengthLoop.{Counted, counted_other, counted_past, counted_joined, counted_all, counted_octets}
 use Rattle.runs.proofs.reading.RunString.canonical_length.Goals as goal
-use Rattle.runs.proofs.reading.RunString.canonical_length.Goals.{then-run-level, else-run-level}
+use Rattle.runs.proofs.reading.RunString.canonical_length.Goals.{then-apart, else-apart}
 
 pub returns-then-highest-gt-HIGHEST-clause-laws : goal.returns-then-highest-gt-HIGHEST-clause-laws
 returns-then-highest-gt-HIGHEST-clause-laws c = canonical_laws
@@ -19,19 +19,19 @@ returns-then-run-done c =
 pub loop-run-preserved : goal.loop-run-preserved
 loop-run-preserved c =
     let l = c.loop-run in
-    let m = c.if-run-level in
+    let m = c.if-apart in
     let run = c.in-Some.run' in
     let h = c.in-Some.ensures.steps in
     let cells = loaded c.args.self.now.v c.args.self.now.octets.now in
     let k : Counted cells c.highest_level-highest.result l.run-iterator l.done m.octets m.level m.alike × (run.level ≡ m.level) =
     elim m.branch [
-      | then-run-level w ↦
+      | then-apart w ↦
           let o = w.run_octets-octets in (
-            subst₃ (Counted cells _ _ l.done) (sym w.octets-is) (sym w.level-is) (sym w.alike-is) (counted_other l.invariant h o.result w.if-run-level.true (o.ensures.octets _) o.ensures.few),
+            subst₃ (Counted cells _ _ l.done) (sym w.octets-is) (sym w.level-is) (sym w.alike-is) (counted_other l.invariant h o.result w.if-apart.true (o.ensures.octets _) o.ensures.few),
             sym w.level-is,
           )
-      | else-run-level w ↦
-          (subst₃ (Counted cells _ _ l.done) (sym w.octets-is) (sym w.level-is) (sym w.alike-is) l.invariant, w.if-run-level.false ∙ sym w.level-is)
+      | else-apart w ↦
+          (subst₃ (Counted cells _ _ l.done) (sym w.octets-is) (sym w.level-is) (sym w.alike-is) l.invariant, w.if-apart.false ∙ sym w.level-is)
     ] in
     counted_joined k.0 h k.1 c.if-run-done.false
 
